@@ -1,0 +1,13 @@
+pub mod Elimination
+pub mod Distance
+pub mod Apartness
+pub mod Reach
+pub mod Horner
+pub mod Vanishing
+pub mod Places
+pub mod SolverLoops
+pub mod SolverLevel
+pub mod Marks
+pub mod Locators
+pub mod Completion
+pub mod SingleErrors

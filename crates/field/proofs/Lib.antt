@@ -1,0 +1,4 @@
+pub mod Algebra
+pub mod Symbols
+pub mod Tables
+pub mod Sizes

@@ -1,0 +1,5 @@
+pub mod Tests
+pub mod Linearity
+pub mod Logarithms
+pub mod Laws
+pub mod Moduli
