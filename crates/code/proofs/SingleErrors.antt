@@ -6,17 +6,18 @@ use mathlib.Core.List.{List, [], _∷_}
 use Prim.Native.Nat.{ℕ, zero, suc, _+_, _-_, _<_, _≤_}
 use native.Mathlib.Omega.{arith}
 use native.Mathlib.Numerals.{add-one}
-use native.Mathlib.Nat.{le-of-suc-le-suc}
+use native.Mathlib.Nat.{le-of-suc-le-suc, mod-eq-of-lt}
 use lib.ListN.{length, getD, set, length-map, length-set, List·getD-map}
 use lib.Seq.{getD-set-same}
 use Rattle.std.proofs.shelf.Lists.{map-set, set-getD}
+use Rattle.std.specs.declared.option.Option.{Option}
 use Rattle.std.specs.declared.option.Option.the-variants.{Some, None}
 use Rattle.field.specs.Arithmetic.{Arithmetic, power, minus}
-use Rattle.field.specs.Systems.{System, Symbol, symbol, productOf, differenceOf}
-use Rattle.field.proofs.Algebra.{nil-plus, cancel, times-minus, minus-four, minus-self, minus-plus, opp-plus}
+use Rattle.field.specs.Systems.{System, Symbol, symbol, productOf, partnerOf, differenceOf}
+use Rattle.field.proofs.Algebra.{nil-plus, nil-times, cancel, times-minus, minus-four, minus-self, minus-plus, opp-plus}
 use Rattle.field.proofs.Symbols.{symbol-is, symbol-nil, symbol-path, product-is}
 use Rattle.code.specs.Codewords.{Symbols, Codeword, locator, syndrome, symbols, syndromeOf, distance}
-use Rattle.code.specs.Acceptance.{Near, Accepted, Geometric, Located, Judged}
+use Rattle.code.specs.Acceptance.{Near, Accepted, Geometric, Position, Located, Judged}
 use Rattle.code.specs.declared.correct.Verdict.the-variants.{Clean, Corrected, NoCodeword}
 use Rattle.code.proofs.Apartness.{OneOff, one-off, distance-self, distance-set}
 use Rattle.code.proofs.Reach.{acceptance-one}
@@ -223,3 +224,36 @@ module _ (s : System) where
         judged-corrected c old short two new p v (getD syndromes 0 0) (one .0) (λ w. bad (codeword-zeros w))
         (subst (λ n. Single n (symbols s old) p) long (geometric-single old syndromes (locator s (length old - 1 - p) .code) p are (here p) (one .1)))
         (are 0 (omega arith)) ev en
+
+  -- The locator of a single error is the quotient of syndromes 1 and 0.
+  module _ (syndromes : List ℕ) (two : 2 ≤ length syndromes) (low : (i : ℕ) → i < length syndromes → getD syndromes i 0 < s .order)
+      (some : ((i : ℕ) → i < length syndromes → getD syndromes i 0 ≡ 0) → ⊥) where
+    module _ (X : Symbol (s .order)) (g : Geometric s (X .code) syndromes) where
+      next : (i : ℕ) → i + 1 < length syndromes → symbol s (getD syndromes (i + 1) 0) ≡ F .times (symbol s (getD syndromes i 0)) X
+      next i l =
+          symbol-is s (getD syndromes (i + 1) 0) (F .times (symbol s (getD syndromes i 0)) (symbol s (X .code))) (g i l)
+          ∙ ap (F .times (symbol s (getD syndromes i 0))) (symbol-is s (X .code) X refl)
+
+      vanish : symbol s (getD syndromes 0 0) ≡ F .nil → (i : ℕ) → i < length syndromes → symbol s (getD syndromes i 0) ≡ F .nil
+      vanish z zero l = z
+      vanish z (suc i) l =
+          ap (λ n. symbol s (getD syndromes n 0)) (sym (add-one i)) ∙ next i (omega arith) ∙ ap (λ a. F .times a X) (vanish z i (omega arith)) ∙ nil-times F X
+
+      first-some : symbol s (getD syndromes 0 0) ≢ F .nil
+      first-some z = some (λ i l. sym (mod-eq-of-lt (low i l)) ∙ ap (λ (a : Symbol (s .order)). a .code) (vanish z i l) ∙ s .nil-is)
+
+      pub quotient-is : (q x : ℕ) → q ≡ partnerOf s (getD syndromes 0 0) → x ≡ productOf s (getD syndromes 1 0) q → x ≡ X .code
+      quotient-is q x eq ex =
+          let a = symbol s (getD syndromes 0 0) in
+          ex
+          ∙ ap (λ (z : Symbol (s .order)). z .code)
+          (ap₂ (F .times) (next 0 (omega arith)) (symbol-is s q (F .inv a) eq)
+          ∙ ap (λ z. F .times z (F .inv a)) (F .times-comm a X) ∙ F .times-assoc X a (F .inv a) ∙ ap (F .times X) (F .times-inv a first-some) ∙ F .times-one X)
+
+    pub not-located : (n q x : ℕ) → q ≡ partnerOf s (getD syndromes 0 0) → x ≡ productOf s (getD syndromes 1 0) q → (Geometric s x syndromes → ⊥) → Located s n syndromes None
+    not-located n q x eq ex bad p l g =
+        bad (subst (λ y. Geometric s y syndromes) (sym (quotient-is (locator s (n - 1 - p)) g q x eq ex)) g)
+
+    pub located : (n q x : ℕ) (r : Option ℕ) → q ≡ partnerOf s (getD syndromes 0 0) → x ≡ productOf s (getD syndromes 1 0) q → Geometric s x syndromes → Position s n x r → Located s n syndromes r
+    located n q x (Some p) eq ex g h = (h .0, subst (λ y. Geometric s y syndromes) (h .1) g)
+    located n q x None eq ex g h = λ p l k. h p l (quotient-is (locator s (n - 1 - p)) k q x eq ex)

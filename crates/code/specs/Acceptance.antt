@@ -51,6 +51,11 @@ module _ (s : System) where
   Geometric x syndromes =
       (i : ℕ) → i + 1 < length syndromes → getD syndromes (i + 1) 0 ≡ productOf s (getD syndromes i 0) x
 
+  -- the place of n whose locator has the code x, if there is one
+  abbrev pub Position : ℕ → ℕ → Option ℕ → Type 0
+  Position n x (Some p) = (p < n) × (x ≡ locator s (n - 1 - p) .code)
+  Position n x None = (p : ℕ) → p < n → x ≡ locator s (n - 1 - p) .code → ⊥
+
   -- the place of n whose locator takes each syndrome to the next, if there is one
   abbrev pub Located : ℕ → List ℕ → Option ℕ → Type 0
   Located n syndromes (Some p) = (p < n) × Geometric (locator s (n - 1 - p) .code) syndromes

@@ -3,11 +3,11 @@ ghost use mathlib.Core.Path.{_≡_};
 ghost use Prim.Native.Nat.{ℕ, _<_, _≤_};
 ghost use lib.ListN.{length, getD};
 ghost use Rattle.std.specs.Orderings.{When};
-ghost use Rattle.code.specs.Acceptance.{Geometric, Located, Judged, Correction};
+ghost use Rattle.code.specs.Acceptance.{Geometric, Position, Located, Judged, Correction};
 use super::LONGEST;
 use super::error::CodeError;
-use super::syndrome::locator;
 use super::syndrome::write_syndromes;
+use field::Field;
 use field::NumberSystem;
 use field::sub;
 
@@ -45,20 +45,36 @@ fn is_geometric<F: NumberSystem>(syndromes: &[u8], x: u8) -> bool
     true
 }
 
-// The place, of `n`, at which one wrong symbol leaves such syndromes.
-fn locate<F: NumberSystem>(n: usize, syndromes: &[u8]) -> Option<usize>
-    ensures { λ r. ⌜ Located (F·NumberSystem .system) n (now (syndromes .entry)) r ⌝ }
+// The place, of `n`, whose locator is `x`.
+fn position_of<F: NumberSystem>(n: usize, x: u8) -> Option<usize>
+    ensures { λ r. ⌜ Position (F·NumberSystem .system) n x r ⌝ }
 {
-    for p in 0..n {
-        if is_geometric::<F>(syndromes, locator::<F>(n - 1 - p)) {
-            return Some(p);
+    let mut l = 1;
+    for k in 0..n {
+        if l == x {
+            return Some(n - 1 - k);
         }
+        l = F::mul(l, F::root());
     }
     None
 }
 
+// The place, of `n`, at which one wrong symbol leaves such syndromes, not all of them 0.
+fn locate<F: Field>(n: usize, syndromes: &[u8]) -> Option<usize>
+    requires two { ⌜ 2 ≤ length (now syndromes) ⌝ }
+    requires small { ⌜ ((i : ℕ) → i < length (now syndromes) → getD (now syndromes) i 0 < F·NumberSystem .system .order) ⌝ }
+    requires some { ⌜ (((i : ℕ) → i < length (now syndromes) → getD (now syndromes) i 0 ≡ 0) → ⊥) ⌝ }
+    ensures { λ r. ⌜ Located (F·NumberSystem .system) n (now (syndromes .entry)) r ⌝ }
+{
+    let x = F::mul(syndromes[1], F::inv(syndromes[0]));
+    if !is_geometric::<F>(syndromes, x) {
+        return None;
+    }
+    position_of::<F>(n, x)
+}
+
 // The same as `correct`, with room for the syndromes, one for each check.
-fn correct_in<F: NumberSystem>(symbols: &mut [u8], syndromes: &mut [u8]) -> Verdict
+fn correct_in<F: Field>(symbols: &mut [u8], syndromes: &mut [u8]) -> Verdict
     requires { ⌜ length (now symbols) < F·NumberSystem .system .order ⌝ ∗ ⌜ 2 ≤ length (now syndromes) ⌝ }
     ensures { λ r. ⌜ Judged (F·NumberSystem .system) (length (now (syndromes .entry))) (now (symbols .entry)) (now (symbols .exit)) r ⌝ }
 {
@@ -76,7 +92,7 @@ fn correct_in<F: NumberSystem>(symbols: &mut [u8], syndromes: &mut [u8]) -> Verd
 }
 
 // Puts in place of the symbols the only codeword of so many checks that differs from them in at most one, if there is one.
-pub fn correct<F: NumberSystem>(symbols: &mut [u8], checks: usize) -> Result<Verdict, CodeError>
+pub fn correct<F: Field>(symbols: &mut [u8], checks: usize) -> Result<Verdict, CodeError>
     ensures { λ r. ⌜ Correction (F·NumberSystem .system) checks (now (symbols .entry)) (now (symbols .exit)) r ⌝ }
 {
     let n = symbols.len();

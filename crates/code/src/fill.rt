@@ -18,7 +18,7 @@ use field::Field;
 use field::NumberSystem;
 
 // How many places are unknown.
-fn count_unknown(unknown: &[bool]) -> usize
+pub fn count_unknown(unknown: &[bool]) -> usize
     ensures { λ r. ⌜ r ≡ count (now (unknown .entry)) ⌝ }
 {
     let mut n = 0;

@@ -46,7 +46,7 @@ pub fn is_codeword<F: NumberSystem>(symbols: &[u8], checks: usize) -> bool
 }
 
 // Syndrome i of the symbols, at each place i of `out`.
-pub(crate) fn write_syndromes<F: NumberSystem>(symbols: &[u8], out: &mut [u8])
+pub fn write_syndromes<F: NumberSystem>(symbols: &[u8], out: &mut [u8])
     ensures { λ _. ⌜ ((i : ℕ) → i < length (now (out .exit)) → getD (now (out .exit)) i 0 ≡ syndromeOf (F·NumberSystem .system) i (now (symbols .entry))) ⌝ }
 {
     for i in 0..out.len() {

@@ -1,8 +1,7 @@
 -- Symbols and their codes.
-use mathlib.Core.Path.{_≡_, refl, sym, ap, ap₂, _∙_}
+use mathlib.Core.Path.{_≡_, sym, ap, ap₂, _∙_}
 use Prim.Native.Nat.{ℕ, _%_}
 use native.Mathlib.Nat.{mod-eq-of-lt}
-use Rattle.field.specs.Arithmetic.{Arithmetic}
 pub use Rattle.field.specs.Symbols.{symbol-path}
 use Rattle.field.specs.Systems.{System, Symbol, symbol, sumOf, productOf}
 

@@ -3,7 +3,7 @@ ghost use mathlib.Core.Path.{_≡_};
 ghost use Prim.Native.Nat.{_<_};
 ghost use lib.Bits.{bitXor};
 ghost use Rattle.polynomial.specs.Polynomials.{timesPower, bytePolynomial, byteProduct};
-ghost use Rattle.field.specs.Systems.{sumOf, productOf, oppositeOf};
+ghost use Rattle.field.specs.Systems.{sumOf, productOf, oppositeOf, partnerOf};
 ghost use Rattle.field.specs.PolynomialFields.{byteSystem};
 use super::Field;
 use super::NumberSystem;
@@ -100,6 +100,7 @@ fn logarithm_of(a: u8) -> u8
     entry(&LOGARITHMS, a)
 }
 
+// Sums are xors, and products go by logarithms: those of the factors are added modulo 255.
 pub impl NumberSystem for ByteField as ByteNumberSystem {
     const Q: u16 = 256;
 
@@ -132,9 +133,7 @@ pub impl NumberSystem for ByteField as ByteNumberSystem {
         ensures product { λ r. ⌜ r ≡ productOf byteSystem a b ⌝ }
         ensures polynomial { λ r. ⌜ r ≡ byteProduct a b ⌝ }
     {
-        if a == 0 {
-            0
-        } else if b == 0 {
+        if a == 0 || b == 0 {
             0
         } else {
             power_of(((logarithm_of(a) as u16 + logarithm_of(b) as u16) % 255) as u8)
@@ -145,12 +144,16 @@ pub impl NumberSystem for ByteField as ByteNumberSystem {
         ensures opposite { λ r. ⌜ r ≡ oppositeOf byteSystem a ⌝ }
         ensures same { λ r. ⌜ r ≡ a ⌝ }
     {
-        a
+        a // each symbol is its own opposite
     }
 }
 
+// Inverses go by logarithms too.
 pub impl Field for ByteField as ByteDivision {
-    fn inv(a: u8) -> u8 {
+    fn inv(a: u8) -> u8
+        ensures partner { λ r. ⌜ r ≡ partnerOf byteSystem a ⌝ }
+        ensures polynomial { λ r. ⌜ (0 < a → byteProduct a r ≡ 1) ⌝ }
+    {
         if a == 0 {
             0
         } else {

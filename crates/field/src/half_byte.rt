@@ -4,7 +4,7 @@ ghost use mathlib.Core.Path.{_≡_};
 ghost use Prim.Native.Nat.{_%_, _<_};
 ghost use lib.Bits.{bitXor};
 ghost use Rattle.polynomial.specs.Polynomials.{timesX, halfBytePolynomial, halfByteProduct};
-ghost use Rattle.field.specs.Systems.{sumOf, productOf, oppositeOf};
+ghost use Rattle.field.specs.Systems.{sumOf, productOf, oppositeOf, partnerOf};
 ghost use Rattle.field.specs.PolynomialFields.{halfByteSystem};
 use super::Field;
 use super::NumberSystem;
@@ -23,6 +23,7 @@ fn times_x(a: u8) -> u8
     if a < 8 { a * 2 } else { (a * 2) ^ 0b1_0011 }
 }
 
+// Sums are xors, and products are sums of shifted factors: one for each bit of the other factor.
 pub impl NumberSystem for HalfByteField as HalfByteNumberSystem {
     const Q: u16 = 16;
 
@@ -72,7 +73,7 @@ pub impl NumberSystem for HalfByteField as HalfByteNumberSystem {
         ensures opposite { λ r. ⌜ r ≡ oppositeOf halfByteSystem a ⌝ }
         ensures same { λ r. ⌜ r ≡ a % 16 ⌝ }
     {
-        a % 16
+        a % 16 // each symbol is its own opposite
     }
 }
 
@@ -82,8 +83,12 @@ const INVERSES: [[u8; 8]; 2] = [
     [0x0F, 0x02, 0x0C, 0x05, 0x0A, 0x04, 0x03, 0x08],
 ];
 
+// Inverses are looked up.
 pub impl Field for HalfByteField as HalfByteDivision {
-    fn inv(a: u8) -> u8 {
+    fn inv(a: u8) -> u8
+        ensures partner { λ r. ⌜ r ≡ partnerOf halfByteSystem a ⌝ }
+        ensures polynomial { λ r. ⌜ (0 < a % 16 → halfByteProduct (a % 16) r ≡ 1) ⌝ }
+    {
         entry(&INVERSES, a % 16)
     }
 }

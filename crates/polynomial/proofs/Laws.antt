@@ -1,6 +1,6 @@
 -- The polynomials of degree below k, modulo a primitive polynomial, keep the laws of a field. Each is 0 or a power of X, and the
 -- product of powers is a power.
-use mathlib.Core.Path.{_≡_, refl, sym, ap, ap₂, subst, _∙_}
+use mathlib.Core.Path.{_≡_, refl, sym, ap, subst, _∙_}
 use mathlib.Core.Logic.{_≢_}
 use Prim.Native.Nat.{ℕ, zero, suc, _+_, _-_, _^_, _<_}
 use native.Mathlib.Nat.{add-zero, add-comm, add-assoc}

@@ -1,8 +1,8 @@
 -- Polynomials over the bits: multiplying by a power of X respects sums, and a polynomial is the sum of its parts.
 use mathlib.Core.Path.{_≡_, refl, sym, ap, ap₂, _∙_}
 use Prim.Native.Nat.{ℕ, zero, suc, _+_, _*_, _/_, _%_, _^_, _≤_, _<_}
-use native.Mathlib.Nat.{mod-lt, mod-one, mod-eq-of-lt, zero-mod, zero-div, zero-add, add-zero, add-comm, add-assoc, suc-add, mul-zero, zero-mul, one-mul, not-suc-le-zero, le-of-suc-le-suc}
-use native.Mathlib.Numerals.{add-one, one-add}
+use native.Mathlib.Nat.{mod-lt, mod-one, mod-eq-of-lt, zero-mod, zero-div, zero-add, add-zero, add-comm, suc-add, mul-zero, zero-mul, one-mul, not-suc-le-zero, le-of-suc-le-suc}
+use native.Mathlib.Numerals.{one-add}
 use native.Mathlib.Omega.{arith}
 use lib.Dec.{lit<}
 use lib.Pow.{pow-pos}
@@ -88,12 +88,16 @@ module _ (k p : ℕ) where
   pub part-without : (i a b r : ℕ) → r ≡ timesPart k p i a b → coefficient i b ≡ 0 → r ≡ timesPart k p (suc i) a b
   unfolding timesPart
   part-without i a b r e z =
-      e ∙ sym (ap (λ d. bitXor (timesPart k p i a b) (d * timesPower k p i a)) z ∙ ap (bitXor (timesPart k p i a b)) (zero-mul (timesPower k p i a)) ∙ xor-zero-r (timesPart k p i a b))
+      let s = timesPart k p i a b in
+      let x = timesPower k p i a in
+      e ∙ sym (ap (λ d. bitXor s (d * x)) z ∙ ap (bitXor s) (zero-mul x) ∙ xor-zero-r s)
 
   pub part-with : (i a b r x : ℕ) → r ≡ timesPart k p i a b → x ≡ timesPower k p i a → coefficient i b ≡ 1 → bitXor r x ≡ timesPart k p (suc i) a b
   unfolding timesPart
   part-with i a b r x e f o =
-      ap₂ bitXor e f ∙ sym (ap (λ d. bitXor (timesPart k p i a b) (d * timesPower k p i a)) o ∙ ap (bitXor (timesPart k p i a b)) (one-mul (timesPower k p i a)))
+      let s = timesPart k p i a b in
+      let y = timesPower k p i a in
+      ap₂ bitXor e f ∙ sym (ap (λ d. bitXor s (d * y)) o ∙ ap (bitXor s) (one-mul y))
 
   pub nil-product : (b : ℕ) → product k p 0 b ≡ 0
   unfolding product
