@@ -18,7 +18,7 @@ use Rattle.field.proofs.Algebra.{nil-plus, nil-times, cancel, times-minus, minu
 use Rattle.field.proofs.Symbols.{symbol-is, symbol-nil, symbol-path, product-is}
 use Rattle.code.specs.Codewords.{Symbols, Codeword, locator, syndrome, symbols, syndromeOf, distance}
 use Rattle.code.specs.Acceptance.{Near, Accepted, Geometric, Position, Located, Judged}
-use Rattle.code.specs.declared.correct.Verdict.the-variants.{Clean, Corrected, NoCodeword}
+use Rattle.code.specs.declared.correct.Verdict.the-variants.{Clean, Corrected, OutOfReach}
 use Rattle.code.proofs.Apartness.{OneOff, one-off, distance-self, distance-set}
 use Rattle.code.proofs.Reach.{acceptance-one}
 use Rattle.code.proofs.Vanishing.{syndrome-zero}
@@ -212,7 +212,7 @@ module _ (s : System) where
     found-clean new e z = judged-clean c old short two new e (zeros-codeword z)
 
     pub found-none : (new : List ℕ) → new ≡ old → (((i : ℕ) → i < length syndromes → getD syndromes i 0 ≡ 0) → ⊥) → Located s (length old) syndromes None
-        → Judged s c old new NoCodeword
+        → Judged s c old new OutOfReach
     found-none new e bad none =
         judged-none c old short two new e (λ w. bad (codeword-zeros w))
         (λ p l sg. none p l (single-geometric old syndromes (locator s (length old - 1 - p) .code) p are (here p)

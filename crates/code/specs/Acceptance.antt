@@ -11,10 +11,9 @@ use Rattle.std.specs.declared.result.Result.the-variants.{Ok, Err}
 use Rattle.field.specs.Systems.{System, symbol, productOf}
 use Rattle.code.specs.Codewords.{Symbols, Codeword, locator, symbols, distance}
 use Rattle.code.specs.declared.correct.Verdict.{Verdict}
-use Rattle.code.specs.declared.correct.Verdict.the-variants.{Clean, Corrected, NoCodeword}
+use Rattle.code.specs.declared.correct.Verdict.the-variants.{Clean, Corrected, OutOfReach}
 use Rattle.code.specs.declared.error.CodeError.{CodeError}
-use Rattle.code.specs.declared.error.CodeError.the-variants.{UnequalLengths, TooLong, TooFewChecks, TooManyChecks, TooManyUnknown}
-use Rattle.code.specs.declared.error.CodeError.the-variants as error
+use Rattle.code.specs.declared.error.CodeError.the-variants.{UnequalLengths, TooLong, TooFewChecks, TooManyChecks, TooManyUnknown, NoCodeword}
 
 module _ (s : System) where
   -- w is a codeword of c checks that differs from what was received in at most t symbols
@@ -67,7 +66,7 @@ module _ (s : System) where
   Judged c old new (Corrected p) =
       (p < length old) × (new ≡ set old p (getD new p 0)) × (symbol s (getD new p 0) ≢ symbol s (getD old p 0))
       × (getD new p 0 < s .order) × Accepted 1 c (symbols s old) (Some (symbols s new))
-  Judged c old new NoCodeword = (new ≡ old) × Accepted 1 c (symbols s old) None
+  Judged c old new OutOfReach = (new ≡ old) × Accepted 1 c (symbols s old) None
 
   -- what correction answers: a verdict, or why it was refused, and then nothing is written
   abbrev pub Correction : ℕ → List ℕ → List ℕ → Result Verdict CodeError → Type 0
@@ -77,4 +76,4 @@ module _ (s : System) where
   Correction c old new (Err TooManyChecks) = (length old < s .order) × (2 ≤ c) × (length old < c) × (new ≡ old)
   Correction c old new (Err UnequalLengths) = ⊥
   Correction c old new (Err TooManyUnknown) = ⊥
-  Correction c old new (Err error.NoCodeword) = ⊥
+  Correction c old new (Err NoCodeword) = ⊥

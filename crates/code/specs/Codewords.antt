@@ -5,10 +5,12 @@ use mathlib.Core.Bool.{Bool, true, false, not}
 use Prim.Native.Nat.{ℕ, suc, _-_, _<_, _≤_}
 use lib.Dec.{eqb}
 use lib.ListN.{length}
+use Rattle.std.specs.Orderings.{When}
 use Rattle.field.specs.Arithmetic.{power}
 use Rattle.field.specs.Systems.{System, Symbol, symbol}
 
 module _ (s : System) where
+  -- lists of symbols
   abbrev pub Symbols : Type 0
   Symbols = List (Symbol (s .order))
 
@@ -37,18 +39,22 @@ module _ (s : System) where
   abbrev pub syndromeOf : ℕ → List ℕ → ℕ
   syndromeOf i xs = syndrome i (symbols xs) .code
 
+-- what a test of P answers: true where P holds, and false where it does not
+abbrev pub Tells : Bool → Type 0 → Type 0
+Tells r P = When r P (P → ⊥)
+
 -- how many are true
 abbrev pub count : List Bool → ℕ
 count [] = 0
 count (true ∷ bs) = suc (count bs)
 count (false ∷ bs) = count bs
 
--- at each place, whether two lists differ there
+-- at each place, whether two lists of one length differ there
 abbrev pub differences : {q : ℕ} → List (Symbol q) → List (Symbol q) → List Bool
 differences [] ys = []
 differences (x ∷ xs) [] = []
 differences (x ∷ xs) (y ∷ ys) = not (eqb (x .code) (y .code)) ∷ differences xs ys
 
--- the number of places at which two lists differ
+-- the number of places at which two lists of one length differ: their Hamming distance
 abbrev pub distance : {q : ℕ} → List (Symbol q) → List (Symbol q) → ℕ
 distance xs ys = count (differences xs ys)

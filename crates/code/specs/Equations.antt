@@ -13,6 +13,7 @@ module _ {A : Type 0} where
   moment F i (x ∷ xs) [] = F .nil
   moment F i (x ∷ xs) (v ∷ vs) = F .plus (F .times v (power F x i)) (moment F i xs vs)
 
+  -- no entry is x
   abbrev pub Lacks : A → List A → Type 0
   Lacks x [] = Unit {0}
   Lacks x (y ∷ ys) = (y ≢ x) × Lacks x ys

@@ -29,16 +29,17 @@ module _ (s : System) where
   -- what filling answers: the places are filled, or why not, and then nothing is written
   abbrev pub Filling : ℕ → List Bool → List ℕ → List ℕ → Result (Unit {0}) CodeError → Type 0
   Filling c unknown old new (Ok u) =
-      (length unknown ≡ length old) × (length old < s .order) × (count unknown ≤ c) × Filled c unknown old new
+      (length unknown ≡ length old) × (length old < s .order) × (c ≤ length old) × (count unknown ≤ c) × Filled c unknown old new
   Filling c unknown old new (Err UnequalLengths) = (length unknown ≢ length old) × (new ≡ old)
   Filling c unknown old new (Err TooLong) = (length unknown ≡ length old) × (s .order ≤ length old) × (new ≡ old)
+  Filling c unknown old new (Err TooManyChecks) =
+      (length unknown ≡ length old) × (length old < s .order) × (length old < c) × (new ≡ old)
   Filling c unknown old new (Err TooManyUnknown) =
-      (length unknown ≡ length old) × (length old < s .order) × (c < count unknown) × (new ≡ old)
+      (length unknown ≡ length old) × (length old < s .order) × (c ≤ length old) × (c < count unknown) × (new ≡ old)
   Filling c unknown old new (Err NoCodeword) =
-      (length unknown ≡ length old) × (length old < s .order) × (count unknown ≤ c)
+      (length unknown ≡ length old) × (length old < s .order) × (c ≤ length old) × (count unknown ≤ c)
       × ((w : Symbols s) → Completes c unknown (symbols s old) w → ⊥) × (new ≡ old)
   Filling c unknown old new (Err TooFewChecks) = ⊥
-  Filling c unknown old new (Err TooManyChecks) = ⊥
 
   -- the last c symbols were written so that the list is a codeword of c checks, and are the only ones that do it
   pub record Encoded (c : ℕ) (old new : List ℕ) : Type 0 where

@@ -9,6 +9,7 @@ use Rattle.code.specs.Codewords.{Symbols, symbols}
 use Rattle.code.specs.Equations.{moment}
 
 module _ (s : System) where
+  -- the sum of the values
   abbrev pub total : Symbols s → Symbol (s .order)
   total [] = s .on .nil
   total (v ∷ vs) = s .on .plus v (total vs)

@@ -2,7 +2,7 @@
 ghost use mathlib.Core.Path.{_≡_};
 ghost use Prim.Native.Nat.{ℕ, _<_, _≤_};
 ghost use lib.ListN.{length, getD};
-ghost use Rattle.std.specs.Orderings.{When};
+ghost use Rattle.code.specs.Codewords.{Tells};
 ghost use Rattle.code.specs.Acceptance.{Geometric, Position, Located, Judged, Correction};
 use super::LONGEST;
 use super::error::CodeError;
@@ -11,19 +11,19 @@ use field::Field;
 use field::NumberSystem;
 use field::sub;
 
-// What a received list of symbols was found to be.
+/// What a received list of symbols was found to be.
 #[derive(Clone, Copy, PartialEq, Eq, Debug)]
 pub enum Verdict {
-    // a codeword as it stood
+    /// a codeword as it stood
     Clean,
-    // one symbol, at this position, was changed to give the only codeword in reach
+    /// one symbol, at this position, was changed to give the only codeword in reach
     Corrected(usize),
-    // no codeword is within one symbol
-    NoCodeword,
+    /// no codeword is within one symbol
+    OutOfReach,
 }
 
 fn all_zero(list: &[u8]) -> bool
-    ensures { λ r. ⌜ When r ((i : ℕ) → i < length (now (list .entry)) → getD (now (list .entry)) i 0 ≡ 0) (((i : ℕ) → i < length (now (list .entry)) → getD (now (list .entry)) i 0 ≡ 0) → ⊥) ⌝ }
+    ensures { λ r. ⌜ Tells r ((i : ℕ) → i < length (now (list .entry)) → getD (now (list .entry)) i 0 ≡ 0) ⌝ }
 {
     for i in 0..list.len() {
         if list[i] != 0 {
@@ -35,7 +35,7 @@ fn all_zero(list: &[u8]) -> bool
 
 // Whether each syndrome is the one before times `x`. All of them are tested.
 fn is_geometric<F: NumberSystem>(syndromes: &[u8], x: u8) -> bool
-    ensures { λ r. ⌜ When r (Geometric (F·NumberSystem .system) x (now (syndromes .entry))) (Geometric (F·NumberSystem .system) x (now (syndromes .entry)) → ⊥) ⌝ }
+    ensures { λ r. ⌜ Tells r (Geometric (F·NumberSystem .system) x (now (syndromes .entry))) ⌝ }
 {
     for i in 1..syndromes.len() {
         if syndromes[i] != F::mul(syndromes[i - 1], x) {
@@ -87,11 +87,11 @@ fn correct_in<F: Field>(symbols: &mut [u8], syndromes: &mut [u8]) -> Verdict
             symbols[p] = sub::<F>(symbols[p], syndromes[0]);
             Verdict::Corrected(p)
         }
-        None => Verdict::NoCodeword,
+        None => Verdict::OutOfReach,
     }
 }
 
-// Puts in place of the symbols the only codeword of so many checks that differs from them in at most one, if there is one.
+/// Changes at most one symbol, so that the list is the only codeword of so many checks within one symbol, if there is one.
 pub fn correct<F: Field>(symbols: &mut [u8], checks: usize) -> Result<Verdict, CodeError>
     ensures { λ r. ⌜ Correction (F·NumberSystem .system) checks (now (symbols .entry)) (now (symbols .exit)) r ⌝ }
 {

@@ -17,7 +17,7 @@ use super::syndrome::syndromes_vanish;
 use field::Field;
 use field::NumberSystem;
 
-// How many places are unknown.
+/// How many places are unknown.
 pub fn count_unknown(unknown: &[bool]) -> usize
     ensures { λ r. ⌜ r ≡ count (now (unknown .entry)) ⌝ }
 {
@@ -117,7 +117,7 @@ fn complete<F: Field>(symbols: &[u8], unknown: &[bool], out: &mut [u8])
     );
 }
 
-// Fills the unknown symbols with the only ones that make a codeword of so many checks.
+/// Fills the unknown symbols with the only ones that make a codeword of so many checks.
 pub fn fill<F: Field>(symbols: &mut [u8], unknown: &[bool], checks: usize) -> Result<(), CodeError>
     ensures { λ r. ⌜ Filling (F·NumberSystem .system) checks (now (unknown .entry)) (now (symbols .entry)) (now (symbols .exit)) r ⌝ }
 {
@@ -127,6 +127,9 @@ pub fn fill<F: Field>(symbols: &mut [u8], unknown: &[bool], checks: usize) -> Re
     }
     if n >= F::order() as usize {
         return Err(CodeError::TooLong);
+    }
+    if checks > n {
+        return Err(CodeError::TooManyChecks);
     }
     let r = count_unknown(unknown);
     if r > checks {
@@ -152,7 +155,7 @@ fn mark_last(places: &mut [bool], count: usize)
     }
 }
 
-// Writes the last symbols, `checks` of them, so that the list is a codeword of so many checks.
+/// Writes the last symbols, `checks` of them, so that the list is a codeword of so many checks.
 pub fn encode<F: Field>(symbols: &mut [u8], checks: usize) -> Result<(), CodeError>
     ensures { λ r. ⌜ Encoding (F·NumberSystem .system) checks (now (symbols .entry)) (now (symbols .exit)) r ⌝ }
 {

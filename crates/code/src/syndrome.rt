@@ -2,19 +2,18 @@
 ghost use mathlib.Core.Path.{_≡_};
 ghost use Prim.Native.Nat.{ℕ, _<_};
 ghost use lib.ListN.{length, getD};
-ghost use Rattle.std.specs.Orderings.{When};
-ghost use Rattle.code.specs.Codewords.{locator as locatorOf, Codeword, Vanish, symbols as symbolsOf, syndromeOf};
+ghost use Rattle.code.specs.Codewords.{locator as locatorOf, Codeword, Tells, Vanish, symbols as symbolsOf, syndromeOf};
 use field::NumberSystem;
 use field::power;
 
-// α to the power `n`: the locator of a symbol that `n` others follow.
-pub fn locator<F: NumberSystem>(n: usize) -> u8
-    ensures { λ r. ⌜ r ≡ locatorOf (F·NumberSystem .system) n .code ⌝ }
+/// The locator of a symbol that so many others follow: α to that power.
+pub fn locator<F: NumberSystem>(behind: usize) -> u8
+    ensures { λ r. ⌜ r ≡ locatorOf (F·NumberSystem .system) behind .code ⌝ }
 {
-    power::<F>(F::root(), n)
+    power::<F>(F::root(), behind)
 }
 
-// Syndrome `i` of the symbols.
+/// Syndrome `i` of the symbols.
 pub fn syndrome<F: NumberSystem>(symbols: &[u8], i: usize) -> u8
     ensures { λ r. ⌜ r ≡ syndromeOf (F·NumberSystem .system) i (now (symbols .entry)) ⌝ }
 {
@@ -28,7 +27,7 @@ pub fn syndrome<F: NumberSystem>(symbols: &[u8], i: usize) -> u8
 
 // Whether the syndromes from one number up to another are all 0.
 pub(crate) fn syndromes_vanish<F: NumberSystem>(symbols: &[u8], from: usize, to: usize) -> bool
-    ensures { λ r. ⌜ When r (Vanish (F·NumberSystem .system) from to (symbolsOf (F·NumberSystem .system) (now (symbols .entry)))) (Vanish (F·NumberSystem .system) from to (symbolsOf (F·NumberSystem .system) (now (symbols .entry))) → ⊥) ⌝ }
+    ensures { λ r. ⌜ Tells r (Vanish (F·NumberSystem .system) from to (symbolsOf (F·NumberSystem .system) (now (symbols .entry)))) ⌝ }
 {
     for i in from..to {
         if syndrome::<F>(symbols, i) != 0 {
@@ -38,14 +37,14 @@ pub(crate) fn syndromes_vanish<F: NumberSystem>(symbols: &[u8], from: usize, to:
     true
 }
 
-// Whether the symbols are a codeword of so many checks.
+/// Whether the symbols are a codeword of so many checks.
 pub fn is_codeword<F: NumberSystem>(symbols: &[u8], checks: usize) -> bool
-    ensures { λ r. ⌜ When r (Codeword (F·NumberSystem .system) checks (symbolsOf (F·NumberSystem .system) (now (symbols .entry)))) (Codeword (F·NumberSystem .system) checks (symbolsOf (F·NumberSystem .system) (now (symbols .entry))) → ⊥) ⌝ }
+    ensures { λ r. ⌜ Tells r (Codeword (F·NumberSystem .system) checks (symbolsOf (F·NumberSystem .system) (now (symbols .entry)))) ⌝ }
 {
     syndromes_vanish::<F>(symbols, 0, checks)
 }
 
-// Syndrome i of the symbols, at each place i of `out`.
+/// Syndrome i of the symbols, at each place i of `out`.
 pub fn write_syndromes<F: NumberSystem>(symbols: &[u8], out: &mut [u8])
     ensures { λ _. ⌜ ((i : ℕ) → i < length (now (out .exit)) → getD (now (out .exit)) i 0 ≡ syndromeOf (F·NumberSystem .system) i (now (symbols .entry))) ⌝ }
 {

@@ -9,7 +9,7 @@ use super::Field;
 use super::NumberSystem;
 use super::table::entry;
 
-// The field whose symbols are the bytes.
+/// The field whose symbols are the bytes.
 #[derive(Clone, Copy)]
 pub struct ByteField;
 

@@ -10,7 +10,7 @@ use super::Field;
 use super::NumberSystem;
 use super::table::entry;
 
-// The field whose symbols are the halves of a byte.
+/// The field whose symbols are the halves of a byte.
 #[derive(Clone, Copy)]
 pub struct HalfByteField;
 

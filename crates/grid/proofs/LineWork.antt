@@ -23,8 +23,7 @@ use Rattle.code.specs.Codewords.{Symbols, symbols, count}
 use Rattle.code.specs.Filling.{Completes, Filled, Filling, Encoded, Encoding}
 use Rattle.code.specs.Acceptance.{Judged, Correction}
 use Rattle.code.specs.declared.correct.Verdict.{Verdict}
-use Rattle.code.specs.declared.correct.Verdict.the-variants.{Clean, Corrected}
-use Rattle.code.specs.declared.correct.Verdict.the-variants as verdict
+use Rattle.code.specs.declared.correct.Verdict.the-variants.{Clean, Corrected, OutOfReach}
 use Rattle.code.specs.declared.error.CodeError.{CodeError}
 use Rattle.code.specs.declared.error.CodeError.the-variants.{UnequalLengths, TooLong, TooFewChecks, TooManyChecks, TooManyUnknown, NoCodeword}
 use Rattle.grid.specs.Packing.{symbolAt, unpacked}
@@ -122,51 +121,51 @@ module _ (s : System) where
       redone (Encoded s c) start step n old new before after eb (omega arith) w (λ i l. encoded-small c before after done small i (omega arith)) done
 
   -- where filling fits, it is done or there is none
-  filling-if : (c : ℕ) (bs : List Bool) (old new : List ℕ) (r : Result (Unit {0}) CodeError) → length bs ≡ length old → length old < s .order → count bs ≤ c → Filling s c bs old new r → FilledIf s c bs old new
-  filling-if c bs old new (Ok u) lb short few e f = e .3
-  filling-if c bs old new (Err UnequalLengths) lb short few e f = absurd (e .0 lb)
-  filling-if c bs old new (Err TooLong) lb short few e f = let l = e .1 in absurd (let z : ⊥ = omega arith in z)
-  filling-if c bs old new (Err TooManyUnknown) lb short few e f = let l = e .2 in absurd (let z : ⊥ = omega arith in z)
-  filling-if c bs old new (Err NoCodeword) lb short few e f = absurd (e .3 (f .0) (f .1))
-  filling-if c bs old new (Err TooFewChecks) lb short few e f = absurd e
-  filling-if c bs old new (Err TooManyChecks) lb short few e f = absurd e
+  filling-if : (c : ℕ) (bs : List Bool) (old new : List ℕ) (r : Result (Unit {0}) CodeError) → length bs ≡ length old → length old < s .order → c ≤ length old → count bs ≤ c → Filling s c bs old new r → FilledIf s c bs old new
+  filling-if c bs old new (Ok u) lb short room few e f = e .4
+  filling-if c bs old new (Err UnequalLengths) lb short room few e f = absurd (e .0 lb)
+  filling-if c bs old new (Err TooLong) lb short room few e f = let l = e .1 in absurd (let z : ⊥ = omega arith in z)
+  filling-if c bs old new (Err TooManyUnknown) lb short room few e f = let l = e .3 in absurd (let z : ⊥ = omega arith in z)
+  filling-if c bs old new (Err NoCodeword) lb short room few e f = absurd (e .4 (f .0) (f .1))
+  filling-if c bs old new (Err TooFewChecks) lb short room few e f = absurd e
+  filling-if c bs old new (Err TooManyChecks) lb short room few e f = let l = e .2 in absurd (let z : ⊥ = omega arith in z)
 
   filling-small : (c : ℕ) (bs : List Bool) (old new : List ℕ) (r : Result (Unit {0}) CodeError) → length new ≡ length old → ((i : ℕ) → i < length old → getD old i 0 < s .order) → Filling s c bs old new r
       → (i : ℕ) → i < length old → getD new i 0 < s .order
-  filling-small c bs old new (Ok u) ln h e i l = filled-small c bs old new (e .3) ln h i l
+  filling-small c bs old new (Ok u) ln h e i l = filled-small c bs old new (e .4) ln h i l
   filling-small c bs old new (Err UnequalLengths) ln h e i l = subst (λ (x : List ℕ). getD x i 0 < s .order) (sym (e .1)) (h i l)
   filling-small c bs old new (Err TooLong) ln h e i l = subst (λ (x : List ℕ). getD x i 0 < s .order) (sym (e .2)) (h i l)
-  filling-small c bs old new (Err TooManyUnknown) ln h e i l = subst (λ (x : List ℕ). getD x i 0 < s .order) (sym (e .3)) (h i l)
-  filling-small c bs old new (Err NoCodeword) ln h e i l = subst (λ (x : List ℕ). getD x i 0 < s .order) (sym (e .4)) (h i l)
+  filling-small c bs old new (Err TooManyUnknown) ln h e i l = subst (λ (x : List ℕ). getD x i 0 < s .order) (sym (e .4)) (h i l)
+  filling-small c bs old new (Err NoCodeword) ln h e i l = subst (λ (x : List ℕ). getD x i 0 < s .order) (sym (e .5)) (h i l)
   filling-small c bs old new (Err TooFewChecks) ln h e i l = absurd e
-  filling-small c bs old new (Err TooManyChecks) ln h e i l = absurd e
+  filling-small c bs old new (Err TooManyChecks) ln h e i l = subst (λ (x : List ℕ). getD x i 0 < s .order) (sym (e .3)) (h i l)
 
   pub fill-redone : (c : ℕ) (bs : List Bool) (start step n : ℕ) (old new before after : List ℕ) (r : Result (Unit {0}) CodeError) → before ≡ line s old start step n → length before ≡ n → length after ≡ length before
-      → n < s .order → length bs ≡ n → count bs ≤ c → Filling s c bs before after r → Written s start step (length after) after old new → Redone s start step n (FilledIf s c bs) old new
-  fill-redone c bs start step n old new before after r eb lb la short lbs few e w =
+      → n < s .order → c ≤ n → length bs ≡ n → count bs ≤ c → Filling s c bs before after r → Written s start step (length after) after old new → Redone s start step n (FilledIf s c bs) old new
+  fill-redone c bs start step n old new before after r eb lb la short room lbs few e w =
       let small : (i : ℕ) → i < length before → getD before i 0 < s .order = λ i l.
       subst (λ (x : List ℕ). getD x i 0 < s .order) (sym eb) (line-small old start step n i (omega arith))
       in
       redone (FilledIf s c bs) start step n old new before after eb (omega arith) w (λ i l. filling-small c bs before after r la small e i (omega arith))
-      (filling-if c bs before after r (omega arith) (omega arith) few e)
+      (filling-if c bs before after r (omega arith) (omega arith) (omega arith) few e)
 
   -- what filling a copy says of the line
-  pub fillable-is : (c : ℕ) (bs : List Bool) (line before after : List ℕ) (r : Result (Unit {0}) CodeError) (t : Bool) → before ≡ line → length bs ≡ length before → length before < s .order → count bs ≤ c
+  pub fillable-is : (c : ℕ) (bs : List Bool) (line before after : List ℕ) (r : Result (Unit {0}) CodeError) (t : Bool) → before ≡ line → length bs ≡ length before → length before < s .order → c ≤ length before → count bs ≤ c
       → Filling s c bs before after r → t ≡ isOk r → When t (Fillable s c bs line) (Fillable s c bs line → ⊥)
-  fillable-is c bs line before after (Ok u) true eb lb short few e h =
-      subst (λ (x : List ℕ). Fillable s c bs x) eb (symbols s after, e .3 .completes)
-  fillable-is c bs line before after (Ok u) false eb lb short few e h = absurd (let z : _≡_ {A = ℕ} 0 1 = cc in let y : ⊥ = omega arith in y)
-  fillable-is c bs line before after (Err x) true eb lb short few e h = absurd (let z : _≡_ {A = ℕ} 0 1 = cc in let y : ⊥ = omega arith in y)
-  fillable-is c bs line before after (Err x) false eb lb short few e h =
+  fillable-is c bs line before after (Ok u) true eb lb short room few e h =
+      subst (λ (x : List ℕ). Fillable s c bs x) eb (symbols s after, e .4 .completes)
+  fillable-is c bs line before after (Ok u) false eb lb short room few e h = absurd (let z : _≡_ {A = ℕ} 0 1 = cc in let y : ⊥ = omega arith in y)
+  fillable-is c bs line before after (Err x) true eb lb short room few e h = absurd (let z : _≡_ {A = ℕ} 0 1 = cc in let y : ⊥ = omega arith in y)
+  fillable-is c bs line before after (Err x) false eb lb short room few e h =
       λ f. none x e (subst (λ (y : List ℕ). Fillable s c bs y) (sym eb) f)
     where
       none : (x : CodeError) → Filling s c bs before after (Err x) → Fillable s c bs before → ⊥
       none UnequalLengths e f = e .0 lb
       none TooLong e f = let l = e .1 in let z : ⊥ = omega arith in z
-      none TooManyUnknown e f = let l = e .2 in let z : ⊥ = omega arith in z
-      none NoCodeword e f = e .3 (f .0) (f .1)
+      none TooManyUnknown e f = let l = e .3 in let z : ⊥ = omega arith in z
+      none NoCodeword e f = e .4 (f .0) (f .1)
       none TooFewChecks e f = e
-      none TooManyChecks e f = e
+      none TooManyChecks e f = let l = e .2 in let z : ⊥ = omega arith in z
 
   -- a byte string as one line
   whole-line : (bytes : List ℕ) → line s bytes 0 1 (length bytes * s .per) ≡ unpacked s bytes
@@ -180,7 +179,7 @@ module _ (s : System) where
   correction-small : (c : ℕ) (old new : List ℕ) (r : Result Verdict CodeError) → Correction s c old new r → ((i : ℕ) → i < length old → getD old i 0 < s .order)
       → (i : ℕ) → i < length old → getD new i 0 < s .order
   correction-small c old new (Ok Clean) e h i l = subst (λ (x : List ℕ). getD x i 0 < s .order) (sym (e .3 .0)) (h i l)
-  correction-small c old new (Ok verdict.NoCodeword) e h i l = subst (λ (x : List ℕ). getD x i 0 < s .order) (sym (e .3 .0)) (h i l)
+  correction-small c old new (Ok OutOfReach) e h i l = subst (λ (x : List ℕ). getD x i 0 < s .order) (sym (e .3 .0)) (h i l)
   correction-small c old new (Ok (Corrected p)) e h i l = go (ℕ-discrete i p)
     where
       j : Judged s c old new (Corrected p)

@@ -2,19 +2,18 @@
 use mathlib.Core.Path.{_≡_}
 use mathlib.Core.Bool.{Bool, true, false, cond}
 use mathlib.Core.List.{List, map}
-use Prim.Native.Nat.{ℕ, _+_, _*_, _%_, _<_, _≤_}
+use Prim.Native.Nat.{ℕ, _+_, _*_, _<_, _≤_}
 use lib.Dec.{ltb, eqb}
 use lib.ListN.{length, getD}
 use Rattle.std.specs.Iters.{counting}
-use Rattle.std.specs.Orderings.{When}
 use Rattle.std.specs.declared.result.Result.{Result}
 use Rattle.std.specs.declared.result.Result.the-variants.{Ok, Err}
-use Rattle.field.specs.Systems.{System, symbol}
-use Rattle.code.specs.Codewords.{Symbols, Codeword, symbols, syndromeOf, count}
-use Rattle.code.specs.Filling.{Completes, Filled, Encoded}
+use Rattle.field.specs.Systems.{System}
+use Rattle.code.specs.Codewords.{Codeword, Tells, symbols, syndromeOf}
+use Rattle.code.specs.Filling.{Filled, Encoded}
 use Rattle.code.specs.declared.error.CodeError.{CodeError}
-use Rattle.code.specs.declared.error.CodeError.the-variants.{UnequalLengths, TooLong, TooFewChecks, TooManyChecks, TooManyUnknown, NoCodeword}
-use Rattle.grid.specs.Packing.{symbolAt, unpacked}
+use Rattle.code.specs.declared.error.CodeError.the-variants.{UnequalLengths, TooLong}
+use Rattle.grid.specs.Packing.{symbolAt}
 use Rattle.grid.specs.declared.shape.Shape.{Shape}
 
 abbrev pub rowsOf : Shape → ℕ
@@ -77,7 +76,7 @@ module _ (s : System) where
   -- which rows are codewords
   pub record RowsJudged (sh : Shape) (bytes : List ℕ) (flags : List Bool) : Type 0 where
     pub each : (r : ℕ) → r < rowsOf sh
-        → When (getD flags r false) (Codeword s (checkSymbols sh) (symbols s (row sh bytes r))) (Codeword s (checkSymbols sh) (symbols s (row sh bytes r)) → ⊥)
+        → Tells (getD flags r false) (Codeword s (checkSymbols sh) (symbols s (row sh bytes r)))
 
   -- row i of the syndromes has at place j syndrome i of column j
   pub record SyndromesOf (sh : Shape) (bytes syndromes : List ℕ) : Type 0 where

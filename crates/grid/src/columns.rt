@@ -22,7 +22,7 @@ use code::syndrome::write_syndromes;
 use field::Field;
 use field::NumberSystem;
 
-// Writes the data bytes of the check rows.
+/// Writes the data bytes of the check rows. Their check bytes stay as they were: encode the rows after it.
 pub fn encode_columns<F: Field>(shape: &Shape, bytes: &mut [u8]) -> Result<(), CodeError>
     ensures reply { λ r. ⌜ r ≡ fitting (F·NumberSystem .system) (now (shape .entry)) (length (now (bytes .entry))) ⌝ }
     ensures after { λ r. ⌜ Cases r (λ _. ColumnsEncoded (F·NumberSystem .system) (now (shape .entry)) (now (bytes .entry)) (now (bytes .exit))) (λ _. now (bytes .exit) ≡ now (bytes .entry)) ⌝ }
@@ -38,7 +38,8 @@ pub fn encode_columns<F: Field>(shape: &Shape, bytes: &mut [u8]) -> Result<(), C
     Ok(())
 }
 
-// Writes the syndromes of all columns: row i of them has, at the place of each column, its syndrome i.
+/// Writes the syndromes of all columns, packed as the data bytes are, into a byte for each data byte of a row and each check
+/// row: row i of them has, at the place of each column, its syndrome i.
 pub fn column_syndromes<F: NumberSystem>(
     shape: &Shape,
     bytes: &[u8],
@@ -108,7 +109,8 @@ fn fill_columns<F: Field>(
     }
 }
 
-// Fills the data bytes of the lost rows with the only ones that make every column a codeword.
+/// Fills the data bytes of the lost rows with the only ones that make every column a codeword. Their check bytes stay as they
+/// were: encode the rows after it. Every column is looked at before any is written, so that a refusal leaves the bytes alone.
 pub fn fill_rows<F: Field>(shape: &Shape, bytes: &mut [u8], lost: &[bool]) -> Result<(), CodeError>
     ensures { λ r. ⌜ LossAnswer (F·NumberSystem .system) (now (shape .entry)) (now (lost .entry)) (now (bytes .entry)) (now (bytes .exit)) (lossReply (F·NumberSystem .system) (now (shape .entry)) (length (now (bytes .entry))) (now (lost .entry))) r ⌝ }
 {

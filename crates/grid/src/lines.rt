@@ -1,11 +1,9 @@
 // Lines of symbols in a byte string, each symbol so many places after the one before: rows and columns of a grid are such lines.
 // A line is copied to a list, worked on there, and copied back.
 ghost use mathlib.Core.Path.{_≡_};
-ghost use mathlib.Core.Bool.{Bool};
 ghost use Prim.Native.Nat.{_*_, _<_, _≤_};
 ghost use lib.ListN.{length};
-ghost use Rattle.std.specs.Orderings.{When};
-ghost use Rattle.code.specs.Codewords.{Codeword, count, symbols as symbolsOf};
+ghost use Rattle.code.specs.Codewords.{Codeword, Tells, count, symbols as symbolsOf};
 ghost use Rattle.code.specs.Filling.{Encoded};
 ghost use Rattle.code.specs.Acceptance.{Correction};
 ghost use Rattle.grid.specs.Packing.{unpacked};
@@ -68,7 +66,7 @@ pub(crate) fn line_is_codeword<F: NumberSystem>(
     room: &mut [u8],
 ) -> bool
     requires { ⌜ Within (F·NumberSystem .system) start step (length (now room)) (length (now bytes)) ⌝ }
-    ensures { λ r. ⌜ When r (Codeword (F·NumberSystem .system) checks (symbolsOf (F·NumberSystem .system) (line (F·NumberSystem .system) (now (bytes .entry)) start step (length (now (room .entry)))))) (Codeword (F·NumberSystem .system) checks (symbolsOf (F·NumberSystem .system) (line (F·NumberSystem .system) (now (bytes .entry)) start step (length (now (room .entry))))) → ⊥) ⌝ }
+    ensures { λ r. ⌜ Tells r (Codeword (F·NumberSystem .system) checks (symbolsOf (F·NumberSystem .system) (line (F·NumberSystem .system) (now (bytes .entry)) start step (length (now (room .entry)))))) ⌝ }
 {
     gather::<F>(bytes, start, step, room);
     is_codeword::<F>(room, checks)
@@ -84,8 +82,9 @@ pub(crate) fn line_is_fillable<F: Field>(
     room: &mut [u8],
 ) -> bool
     requires within { ⌜ Within (F·NumberSystem .system) start step (length (now room)) (length (now bytes)) ⌝ }
-    requires fits { ⌜ length (now room) < F·NumberSystem .system .order ⌝ ∗ ⌜ length (now unknown) ≡ length (now room) ⌝ ∗ ⌜ count (now unknown) ≤ checks ⌝ }
-    ensures { λ r. ⌜ When r (Fillable (F·NumberSystem .system) checks (now (unknown .entry)) (line (F·NumberSystem .system) (now (bytes .entry)) start step (length (now (room .entry))))) (Fillable (F·NumberSystem .system) checks (now (unknown .entry)) (line (F·NumberSystem .system) (now (bytes .entry)) start step (length (now (room .entry)))) → ⊥) ⌝ }
+    requires fits { ⌜ length (now room) < F·NumberSystem .system .order ⌝ ∗ ⌜ checks ≤ length (now room) ⌝ }
+    requires marks { ⌜ length (now unknown) ≡ length (now room) ⌝ ∗ ⌜ count (now unknown) ≤ checks ⌝ }
+    ensures { λ r. ⌜ Tells r (Fillable (F·NumberSystem .system) checks (now (unknown .entry)) (line (F·NumberSystem .system) (now (bytes .entry)) start step (length (now (room .entry))))) ⌝ }
 {
     gather::<F>(bytes, start, step, room);
     fill::<F>(room, unknown, checks).is_ok()
@@ -101,7 +100,8 @@ pub(crate) fn fill_line<F: Field>(
     room: &mut [u8],
 )
     requires within { ⌜ Within (F·NumberSystem .system) start step (length (now room)) (length (now bytes)) ⌝ }
-    requires fits { ⌜ length (now room) < F·NumberSystem .system .order ⌝ ∗ ⌜ length (now unknown) ≡ length (now room) ⌝ ∗ ⌜ count (now unknown) ≤ checks ⌝ }
+    requires fits { ⌜ length (now room) < F·NumberSystem .system .order ⌝ ∗ ⌜ checks ≤ length (now room) ⌝ }
+    requires marks { ⌜ length (now unknown) ≡ length (now room) ⌝ ∗ ⌜ count (now unknown) ≤ checks ⌝ }
     ensures { λ _. ⌜ Redone (F·NumberSystem .system) start step (length (now (room .entry))) (FilledIf (F·NumberSystem .system) checks (now (unknown .entry))) (now (bytes .entry)) (now (bytes .exit)) ⌝ }
 {
     gather::<F>(bytes, start, step, room);

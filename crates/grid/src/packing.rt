@@ -1,7 +1,6 @@
 // Symbols in bytes: m of them in each, the upper part of a byte first.
 ghost use mathlib.Core.Path.{_≡_};
 ghost use mathlib.Core.List.{List, map};
-ghost use mathlib.Core.Bool.{cond};
 ghost use Prim.Native.Nat.{ℕ, _-_, _*_, _%_, _^_, _<_};
 ghost use lib.Dec.{eqb};
 ghost use lib.ListN.{length};
@@ -43,7 +42,7 @@ fn replace_part<F: NumberSystem>(b: u8, k: usize, v: u8) -> u8
     (above + v as u16 % q * w + b as u16 % w) as u8
 }
 
-// Symbol `p` of a byte string, and 0 past its end.
+/// Symbol `p` of a byte string, and 0 past its end.
 pub fn symbol_at<F: NumberSystem>(bytes: &[u8], p: usize) -> u8
     ensures { λ r. ⌜ r ≡ symbolAt (F·NumberSystem .system) (now (bytes .entry)) p ⌝ }
 {
@@ -85,7 +84,7 @@ fn go_together<F: NumberSystem>(symbols: usize, bytes: usize) -> bool
     symbols / m == bytes
 }
 
-// Writes the symbols of the bytes to `symbols`, which has m places for each byte.
+/// Writes the symbols of the bytes to `symbols`, which has m places for each byte.
 pub fn unpack<F: NumberSystem>(bytes: &[u8], symbols: &mut [u8]) -> Result<(), CodeError>
     ensures reply { λ r. ⌜ r ≡ lengthReply (F·NumberSystem .system) (length (now (symbols .entry))) (length (now (bytes .entry))) ⌝ }
     ensures after { λ r. ⌜ Cases r (λ _. now (symbols .exit) ≡ unpacked (F·NumberSystem .system) (now (bytes .entry))) (λ _. now (symbols .exit) ≡ now (symbols .entry)) ⌝ }
@@ -99,7 +98,7 @@ pub fn unpack<F: NumberSystem>(bytes: &[u8], symbols: &mut [u8]) -> Result<(), C
     Ok(())
 }
 
-// Writes the bytes that have these symbols, m in each byte; a code of q or more counts as its remainder modulo q.
+/// Writes the bytes that have these symbols, m in each byte; a code of q or more counts as its remainder modulo q.
 pub fn pack<F: NumberSystem>(symbols: &[u8], bytes: &mut [u8]) -> Result<(), CodeError>
     ensures reply { λ r. ⌜ r ≡ lengthReply (F·NumberSystem .system) (length (now (symbols .entry))) (length (now (bytes .entry))) ⌝ }
     ensures after { λ r. ⌜ Cases r (λ _. unpacked (F·NumberSystem .system) (now (bytes .exit)) ≡ map (λ x. x % F·NumberSystem .system .order) (now (symbols .entry))) (λ _. now (bytes .exit) ≡ now (bytes .entry)) ⌝ }
@@ -115,7 +114,7 @@ pub fn pack<F: NumberSystem>(symbols: &[u8], bytes: &mut [u8]) -> Result<(), Cod
     Ok(())
 }
 
-// Byte strings with the same symbols are equal. It computes nothing: its contract is the theorem.
+/// Byte strings with the same symbols are equal. It computes nothing: its contract is the theorem.
 pub fn symbols_tell_bytes<F: NumberSystem>()
     ensures { λ _. ⌜ SymbolsTellBytes (F·NumberSystem .system) ⌝ }
 {}

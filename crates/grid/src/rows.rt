@@ -14,7 +14,7 @@ use code::error::CodeError;
 use field::Field;
 use field::NumberSystem;
 
-// Writes the check bytes of every row.
+/// Writes the check bytes of every row.
 pub fn encode_rows<F: Field>(shape: &Shape, bytes: &mut [u8]) -> Result<(), CodeError>
     ensures reply { λ r. ⌜ r ≡ fitting (F·NumberSystem .system) (now (shape .entry)) (length (now (bytes .entry))) ⌝ }
     ensures after { λ r. ⌜ Cases r (λ _. RowsEncoded (F·NumberSystem .system) (now (shape .entry)) (now (bytes .entry)) (now (bytes .exit))) (λ _. now (bytes .exit) ≡ now (bytes .entry)) ⌝ }
@@ -30,7 +30,7 @@ pub fn encode_rows<F: Field>(shape: &Shape, bytes: &mut [u8]) -> Result<(), Code
     Ok(())
 }
 
-// Says of every row whether it is a codeword.
+/// Says of every row whether it is a codeword.
 pub fn codeword_rows<F: NumberSystem>(
     shape: &Shape,
     bytes: &[u8],
@@ -52,7 +52,7 @@ pub fn codeword_rows<F: NumberSystem>(
     Ok(())
 }
 
-// Puts in place of a row's bytes the only codeword that differs from its symbols in at most one, if there is one.
+/// Puts in place of a row's bytes the only codeword that differs from its symbols in at most one, if there is one.
 pub fn correct_row<F: Field>(row: &mut [u8], check_bytes: usize) -> Result<Verdict, CodeError>
     ensures { λ r. ⌜ RowCorrection (F·NumberSystem .system) «check_bytes» (now (row .entry)) (now (row .exit)) r ⌝ }
 {

@@ -1,15 +1,12 @@
 // The shape of a grid of symbols kept in bytes.
 ghost use mathlib.Core.Path.{_≡_};
-ghost use Prim.Native.Nat.{_+_, _*_, _<_};
+ghost use Prim.Native.Nat.{_+_};
 ghost use lib.Dec.{ltb};
-ghost use Rattle.std.specs.Results.{Cases};
-ghost use Rattle.std.specs.declared.result.Result.the-variants.{Err};
-ghost use Rattle.grid.specs.Grids.{fitting};
 ghost use Rattle.grid.specs.Measures.{Measured};
 use code::error::CodeError;
 use field::NumberSystem;
 
-// Data rows and then check rows, one after another; each row has data bytes and then check bytes.
+/// Data rows and then check rows, one after another; each row has data bytes and then check bytes.
 #[derive(Clone, Copy, PartialEq, Eq, Debug)]
 pub struct Shape {
     pub data_rows: usize,

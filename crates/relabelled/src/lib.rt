@@ -9,7 +9,7 @@ use field::Field;
 use field::NumberSystem;
 use field::table::entry;
 
-// The half-byte field by its labels.
+/// The half-byte field by its labels.
 #[derive(Clone, Copy)]
 pub struct RelabelledField;
 

@@ -55,7 +55,7 @@ fn show_correction(rt: &LibcRuntime, body: &mut [u8; 7]) -> io::Result<()> {
     match correct_row::<HalfByteField>(body, SUBCODE_ROW.check_bytes) {
         Ok(Verdict::Clean) => println!(rt, "it is a codeword"),
         Ok(Verdict::Corrected(p)) => println!(rt, "corrected at symbol {p}:{}", Hex(body)),
-        Ok(Verdict::NoCodeword) => println!(rt, "no codeword within one symbol"),
+        Ok(Verdict::OutOfReach) => println!(rt, "no codeword within one symbol"),
         Err(e) => println!(rt, "not corrected: {e:?}"),
     }
 }

@@ -20,6 +20,7 @@ returns-then-not-syndromes-vanish g c =
     let few : count bs ≤ c .args .checks = omega (arith, c .count-unknown-r .ensures, c .if-r-checks .left) in (
       same,
       short,
+      c .if-checks-n .left,
       few,
       tested-false s bs old (c .complete .last .out) same short (c .args .checks) few (c .complete .ensures) (c .count-unknown-r .result) (c .syndromes-vanish .result)
           (c .count-unknown-r .ensures) (c .if-not-syndromes-vanish .taken) (c .syndromes-vanish .ensures),
@@ -36,6 +37,7 @@ returns g c =
     let few : count bs ≤ c .args .checks = omega (arith, c .count-unknown-r .ensures, c .if-r-checks .left) in (
       same,
       short,
+      c .if-checks-n .left,
       few,
       tested-true s bs old (c .complete .last .out) same short (c .args .checks) few (c .complete .ensures) (c .count-unknown-r .result) (c .syndromes-vanish .result)
           (c .copy-from-slice .last .self) (c .count-unknown-r .ensures) (c .if-not-syndromes-vanish .left) (c .syndromes-vanish .ensures) (c .copy-from-slice .ensures .after),

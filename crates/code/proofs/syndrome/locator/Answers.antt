@@ -6,4 +6,4 @@ use Rattle.code.proofs.syndrome.locator.Needs as need
 pub returns : need.returns
 returns g c =
     let s = g .F·NumberSystem .system in
-    c .power .ensures ∙ ap (λ x. power (s .on) x (c .args .n) .code) (symbol-is s (c .root .result) (s .root) (c .root .ensures))
+    c .power .ensures ∙ ap (λ x. power (s .on) x (c .args .behind) .code) (symbol-is s (c .root .result) (s .root) (c .root .ensures))

@@ -13,7 +13,8 @@ line-is-fillable-requires g c κs =
     let long : length (c .loop-j .word) ≡ c .args .sizes .now .rows = c .loop-j .kept .word ∙ c .pre .lengths .0 in
     record {
       within = column-call (g .F·NumberSystem .system) (c .args .shape .now) (length (c .args .bytes .now)) (c .args .sizes .now) (c .pre .sized) (c .loop-j .j) (length (c .loop-j .word)) (length (c .args .bytes .now)) (c .loop-j-test .taken) long refl;
-      fits = (columns-short (g .F·NumberSystem .system) (c .args .shape .now) (length (c .args .bytes .now)) (c .args .sizes .now) (c .pre .sized) (length (c .loop-j .word)) long .0, (omega (arith, long, c .pre .lengths .1), c .pre .few));
+      fits = columns-short (g .F·NumberSystem .system) (c .args .shape .now) (length (c .args .bytes .now)) (c .args .sizes .now) (c .pre .sized) (length (c .loop-j .word)) long;
+      marks = (omega (arith, long, c .pre .lengths .1), c .pre .few);
     }
 
 pub loop-j-again : need.loop-j-again

@@ -12,7 +12,8 @@ fill-line-requires g c κs =
     let long : length (c .loop-j .word) ≡ c .args .sizes .now .rows = c .loop-j .kept .word ∙ c .pre .lengths .0 in
     record {
       within = column-call (g .F·NumberSystem .system) (c .args .shape .now) (length (c .args .bytes .now)) (c .args .sizes .now) (c .pre .sized) (c .loop-j .j) (length (c .loop-j .word)) (length (c .loop-j .bytes)) (c .loop-j-test .taken) long (c .loop-j .kept .bytes);
-      fits = (columns-short (g .F·NumberSystem .system) (c .args .shape .now) (length (c .args .bytes .now)) (c .args .sizes .now) (c .pre .sized) (length (c .loop-j .word)) long .0, (omega (arith, long, c .pre .lengths .1), c .pre .few));
+      fits = columns-short (g .F·NumberSystem .system) (c .args .shape .now) (length (c .args .bytes .now)) (c .args .sizes .now) (c .pre .sized) (length (c .loop-j .word)) long;
+      marks = (omega (arith, long, c .pre .lengths .1), c .pre .few);
     }
 
 pub loop-j-again : need.loop-j-again
