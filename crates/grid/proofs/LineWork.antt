@@ -28,7 +28,7 @@ use Rattle.code.specs.declared.error.CodeError.{CodeError}
 use Rattle.code.specs.declared.error.CodeError.the-variants.{UnequalLengths, TooLong, TooFewChecks, TooManyChecks, TooManyUnknown, NoCodeword}
 use Rattle.grid.specs.Packing.{symbolAt, unpacked}
 use Rattle.grid.specs.Grids.{line}
-use Rattle.grid.specs.Answers.{RowCorrection}
+use Rattle.grid.specs.Answers.{isCorrected, BytesCorrected, RowCorrection}
 use Rattle.grid.specs.Lines.{Within, Written, Redone, Fillable, FilledIf}
 use Rattle.grid.proofs.Parts.{symbol-small, length-unpacked, getD-unpacked}
 
@@ -196,7 +196,7 @@ module _ (s : System) where
   correction-small c old new (Err TooManyUnknown) e h i l = absurd e
   correction-small c old new (Err NoCodeword) e h i l = absurd e
 
-  pub correct-redone : (c n : ℕ) (old new before after : List ℕ) (r : Result Verdict CodeError) → n ≡ length old * s .per → before ≡ line s old 0 1 n → length before ≡ n → length after ≡ length before → length new ≡ length old
+  correct-redone : (c n : ℕ) (old new before after : List ℕ) (r : Result Verdict CodeError) → n ≡ length old * s .per → before ≡ line s old 0 1 n → length before ≡ n → length after ≡ length before → length new ≡ length old
       → Correction s c before after r → Written s 0 1 (length after) after old new → Correction s c (unpacked s old) (unpacked s new) r
   correct-redone c n old new before after r en eb lb la ln e w =
       let small : (i : ℕ) → i < length before → getD before i 0 < s .order = λ i l.
@@ -207,6 +207,36 @@ module _ (s : System) where
       in
       subst (λ (x : List ℕ). Correction s c x (unpacked s new) r) (ap (line s old 0 1) en ∙ whole-line old)
       (subst (λ (x : List ℕ). Correction s c (line s old 0 1 n) x r) (ap (line s new 0 1) (en ∙ ap (λ m. m * s .per) (sym ln)) ∙ whole-line new) (done .done))
+
+  -- nothing was corrected: the list is as it was
+  correction-else : (c : ℕ) (old new : List ℕ) (r : Result Verdict CodeError) → isCorrected r ≡ false → Correction s c old new r → new ≡ old
+  correction-else c old new (Ok Clean) n e = e .3 .0
+  correction-else c old new (Ok OutOfReach) n e = e .3 .0
+  correction-else c old new (Ok (Corrected p)) n e = absurd (let z : _≡_ {A = ℕ} 0 1 = cc in let y : ⊥ = omega arith in y)
+  correction-else c old new (Err TooLong) n e = e .1
+  correction-else c old new (Err TooFewChecks) n e = e .2
+  correction-else c old new (Err TooManyChecks) n e = e .3
+  correction-else c old new (Err UnequalLengths) n e = absurd e
+  correction-else c old new (Err TooManyUnknown) n e = absurd e
+  correction-else c old new (Err NoCodeword) n e = absurd e
+
+  pub corrected-then : (c n : ℕ) (old new before after : List ℕ) (r : Result Verdict CodeError) → n ≡ length old * s .per → before ≡ line s old 0 1 n → length before ≡ n → length after ≡ length before → length new ≡ length old
+      → isCorrected r ≡ true → Correction s c before after r → Written s 0 1 (length after) after old new → BytesCorrected s c old new r
+  corrected-then c n old new before after r en eb lb la ln t e w = record {
+    symbols = correct-redone c n old new before after r en eb lb la ln e w;
+    kept = λ f. absurd (let u : true ≡ false = sym t ∙ f in let z : _≡_ {A = ℕ} 0 1 = cc in let y : ⊥ = omega arith in y);
+  }
+
+  pub corrected-else : (c n : ℕ) (old new before after : List ℕ) (r : Result Verdict CodeError) → n ≡ length old * s .per → before ≡ line s old 0 1 n → new ≡ old
+      → isCorrected r ≡ false → Correction s c before after r → BytesCorrected s c old new r
+  corrected-else c n old new before after r en eb same f e =
+      let is : before ≡ unpacked s old = eb ∙ ap (line s old 0 1) en ∙ whole-line old in
+      record {
+        symbols =
+            subst (λ (x : List ℕ). Correction s c x (unpacked s new) r) is
+            (subst (λ (x : List ℕ). Correction s c before x r) (correction-else c before after r f e ∙ is ∙ ap (unpacked s) (sym same)) e);
+        kept = λ _. same;
+      }
 
   -- all the symbols of so many bytes
   pub whole-within : (n bytes : ℕ) → n ≡ bytes * s .per → bytes * s .per ≤ 255 → Within s 0 1 n bytes
@@ -221,10 +251,11 @@ module _ (s : System) where
   choose : (A B : Type 0) (a b : ℕ) → b ≤ a → B → When (ltb a b) A B
   choose A B a b l x = subst (λ t. When t A B) (sym (le-ltb a b l)) x
 
-  pub corrected-row : (c m : ℕ) (old new : List ℕ) (r : Result Verdict CodeError) → m ≡ s .per → c ≤ length old → Correction s (c * m) (unpacked s old) (unpacked s new) r → RowCorrection s c old new r
+  pub corrected-row : (c m : ℕ) (old new : List ℕ) (r : Result Verdict CodeError) → m ≡ s .per → c ≤ length old → BytesCorrected s (c * m) old new r → RowCorrection s c old new r
   corrected-row c m old new r em l e =
-      choose ((r ≡ Err TooManyChecks) × (new ≡ old)) (Correction s (c * s .per) (unpacked s old) (unpacked s new) r) (length old) c l (subst (λ n. Correction s (c * n) (unpacked s old) (unpacked s new) r) em e)
+      choose ((r ≡ Err TooManyChecks) × (new ≡ old)) (BytesCorrected s (c * s .per) old new r) (length old) c l (subst (λ n. BytesCorrected s (c * n) old new r) em e)
 
   pub too-long-row : (c : ℕ) (old new : List ℕ) → new ≡ old → c ≤ length old → s .order ≤ length old * s .per → RowCorrection s c old new (Err TooLong)
   too-long-row c old new e l h =
-      choose ((_≡_ {A = Result Verdict CodeError} (Err TooLong) (Err TooManyChecks)) × (new ≡ old)) (Correction s (c * s .per) (unpacked s old) (unpacked s new) (Err TooLong)) (length old) c l (subst (λ n. s .order ≤ n) (sym (length-unpacked s old)) h, ap (unpacked s) e)
+      choose ((_≡_ {A = Result Verdict CodeError} (Err TooLong) (Err TooManyChecks)) × (new ≡ old)) (BytesCorrected s (c * s .per) old new (Err TooLong)) (length old) c l
+      record { symbols = (subst (λ n. s .order ≤ n) (sym (length-unpacked s old)) h, ap (unpacked s) e); kept = λ _. e }

@@ -1,6 +1,6 @@
 -- What the calls on many rows answer.
 use mathlib.Core.Path.{_≡_}
-use mathlib.Core.Bool.{Bool, cond}
+use mathlib.Core.Bool.{Bool, true, false, cond}
 use mathlib.Core.List.{List}
 use Prim.Native.Nat.{ℕ, _*_, _<_}
 use lib.Dec.{eqb, leb, ltb}
@@ -12,6 +12,7 @@ use Rattle.field.specs.Systems.{System}
 use Rattle.code.specs.Codewords.{count}
 use Rattle.code.specs.Acceptance.{Correction}
 use Rattle.code.specs.declared.correct.Verdict.{Verdict}
+use Rattle.code.specs.declared.correct.Verdict.the-variants.{Clean, Corrected, OutOfReach}
 use Rattle.code.specs.declared.error.CodeError.{CodeError}
 use Rattle.code.specs.declared.error.CodeError.the-variants.{UnequalLengths, TooLong, TooFewChecks, TooManyChecks, TooManyUnknown, NoCodeword}
 use Rattle.grid.specs.Packing.{unpacked}
@@ -23,6 +24,13 @@ use Rattle.grid.specs.declared.shape.Shape.{Shape}
 abbrev pub andThen : Result (Unit {0}) CodeError → Bool → CodeError → Result (Unit {0}) CodeError
 andThen (Ok u) b e = cond b (Ok tt) (Err e)
 andThen (Err x) b e = Err x
+
+-- whether a symbol was corrected
+abbrev pub isCorrected : Result Verdict CodeError → Bool
+isCorrected (Ok Clean) = false
+isCorrected (Ok (Corrected p)) = true
+isCorrected (Ok OutOfReach) = false
+isCorrected (Err e) = false
 
 module _ (s : System) where
   -- the grid fits, and there is a flag for each row
@@ -53,7 +61,12 @@ module _ (s : System) where
   LossAnswer sh lost old new (Ok u) r = RowsFilling sh lost old new r
   LossAnswer sh lost old new (Err e) r = (r ≡ Err e) × (new ≡ old)
 
+  -- correction of the symbols of a byte string, of which no byte is written unless a symbol was corrected
+  pub record BytesCorrected (checks : ℕ) (old new : List ℕ) (r : Result Verdict CodeError) : Type 0 where
+    pub symbols : Correction s checks (unpacked s old) (unpacked s new) r
+    pub kept : isCorrected r ≡ false → new ≡ old
+
   -- what correcting one row answers: more check bytes than bytes are refused first
   abbrev pub RowCorrection : ℕ → List ℕ → List ℕ → Result Verdict CodeError → Type 0
   RowCorrection checks old new r =
-      When (ltb (length old) checks) ((r ≡ Err TooManyChecks) × (new ≡ old)) (Correction s (checks * s .per) (unpacked s old) (unpacked s new) r)
+      When (ltb (length old) checks) ((r ≡ Err TooManyChecks) × (new ≡ old)) (BytesCorrected (checks * s .per) old new r)

@@ -5,8 +5,7 @@ ghost use Prim.Native.Nat.{_*_, _<_, _≤_};
 ghost use lib.ListN.{length};
 ghost use Rattle.code.specs.Codewords.{Codeword, Tells, count, symbols as symbolsOf};
 ghost use Rattle.code.specs.Filling.{Encoded};
-ghost use Rattle.code.specs.Acceptance.{Correction};
-ghost use Rattle.grid.specs.Packing.{unpacked};
+ghost use Rattle.grid.specs.Answers.{isCorrected, BytesCorrected};
 ghost use Rattle.grid.specs.Grids.{line};
 ghost use Rattle.grid.specs.Lines.{Within, Written, Redone, Fillable, FilledIf};
 use super::packing::set_symbol;
@@ -109,6 +108,16 @@ pub(crate) fn fill_line<F: Field>(
     scatter::<F>(bytes, start, step, room);
 }
 
+// Whether a symbol was corrected.
+fn is_corrected(verdict: &Result<Verdict, CodeError>) -> bool
+    ensures { λ r. ⌜ r ≡ isCorrected (now (verdict .entry)) ⌝ }
+{
+    match verdict {
+        Ok(Verdict::Corrected(_)) => true,
+        _ => false,
+    }
+}
+
 // Corrects one symbol of a whole byte string, with room for a copy of its symbols.
 pub(crate) fn correct_line<F: Field>(
     bytes: &mut [u8],
@@ -117,10 +126,12 @@ pub(crate) fn correct_line<F: Field>(
 ) -> Result<Verdict, CodeError>
     requires within { ⌜ Within (F·NumberSystem .system) 0 1 (length (now room)) (length (now bytes)) ⌝ }
     requires whole { ⌜ length (now room) ≡ length (now bytes) * F·NumberSystem .system .per ⌝ }
-    ensures { λ r. ⌜ Correction (F·NumberSystem .system) checks (unpacked (F·NumberSystem .system) (now (bytes .entry))) (unpacked (F·NumberSystem .system) (now (bytes .exit))) r ⌝ }
+    ensures { λ r. ⌜ BytesCorrected (F·NumberSystem .system) checks (now (bytes .entry)) (now (bytes .exit)) r ⌝ }
 {
     gather::<F>(bytes, 0, 1, room);
     let verdict = correct::<F>(room, checks);
-    scatter::<F>(bytes, 0, 1, room);
+    if is_corrected(&verdict) {
+        scatter::<F>(bytes, 0, 1, room);
+    }
     verdict
 }
