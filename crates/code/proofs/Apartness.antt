@@ -16,7 +16,7 @@ holds : (b : Bool) → T b → b ≡ true
 holds true t = refl
 holds false t = absurd t
 
-at-most : (bs : List Bool) (b : Bool) → count (b ∷ bs) ≤ suc (count bs)
+pub at-most : (bs : List Bool) (b : Bool) → count (b ∷ bs) ≤ suc (count bs)
 at-most bs true = omega arith
 at-most bs false = omega arith
 

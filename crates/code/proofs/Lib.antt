@@ -11,3 +11,4 @@ pub mod Marks
 pub mod Locators
 pub mod Completion
 pub mod SingleErrors
+pub mod Trying

@@ -39,6 +39,12 @@ module _ (s : System) where
       (t c : ℕ) (received : Symbols s) → length received ≤ s .order - 1 → t + t ≤ c
       → (v w : Symbols s) → Near t c received v → Near t c received w → v ≡ w
 
+  -- of every list exactly one answer is accepted: a codeword, or that there is none
+  abbrev pub AcceptanceHasOneAnswer : Type 0
+  AcceptanceHasOneAnswer =
+      (t c : ℕ) (received : Symbols s) → length received ≤ s .order - 1 → t + t ≤ c
+      → (a : Option (Symbols s)) × Accepted t c received a × ((b : Option (Symbols s)) → Accepted t c received b → b ≡ a)
+
   -- what was received differs from a codeword in at most c - t symbols: any codeword within reach t of it is that one
   abbrev pub AcceptedIsSent : Type 0
   AcceptedIsSent =
