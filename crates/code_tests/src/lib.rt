@@ -149,7 +149,11 @@ mod tests {
             correct::<ByteField>(&mut s, 2),
             Err(CodeError::TooManyChecks),
         )?;
-        check_eq(fill::<ByteField>(&mut s, &[], 3), Ok(()))?;
+        check_eq(fill::<ByteField>(&mut s, &[], 0), Ok(()))?;
+        check_eq(
+            fill::<ByteField>(&mut s, &[], 3),
+            Err(CodeError::TooManyChecks),
+        )?;
         check_eq(
             fill::<ByteField>(&mut s, &[true], 3),
             Err(CodeError::UnequalLengths),
