@@ -1,5 +1,5 @@
 -- Symbols at unknown places: what they add to the syndromes, and that a completion is the only one.
-use Rattle.std.proofs.Common.{◌≡◌, ℕ, zero, suc, ◌+◌, ◌-◌, ◌<◌, ◌≤◌, Bool, true, false, not, T, eqb, ◌≢◌, List, [], ◌∷◌, length, get_or, MatchBool, sym, refl, ap, ◌∙◌, subst, ap₂, le_of_suc-le-suc, arith}
+use Rattle.std.proofs.Common.{◌≡◌, ℕ, zero, suc, ◌+◌, ◌<◌, ◌≤◌, Bool, true, false, not, T, eqb, List, [], ◌∷◌, length, get_or, MatchBool, sym, refl, ap, ◌∙◌, subst, ap₂, arith}
 use native.Mathlib.Decide.{dec_lt}
 use native.Mathlib.Nat.{suc_inj}
 use lib.Dec.{eqb_refl}
@@ -7,12 +7,12 @@ use lib.ListN.{length-map, get_or-map}
 use Rattle.field.specs.Arithmetic.{Arithmetic, power}
 use Rattle.field.specs.Systems.{System, Symbol, symbol, opposite_of}
 use Rattle.field.proofs.Algebra.{nil_plus, nil_times, opp_plus}
-use Rattle.field.proofs.Symbols.{symbol_is, symbol_nil, symbol_path}
+use Rattle.field.proofs.Symbols.{symbol_is, symbol_nil}
 use Rattle.code.specs.Codewords.{Symbols, Codeword, Vanish, locator, syndrome, symbols, syndrome_of, count, differences, distance}
 use Rattle.code.specs.Equations.{moment}
 use Rattle.code.specs.Erasures.{picked, blanked, merged, locators, Completed}
 use Rattle.code.specs.Filling.{Completes, Filled, Encoded}
-use Rattle.code.specs.Solving.{place, Solved}
+use Rattle.code.specs.Solving.{Solved}
 use Rattle.code.proofs.Marks.{length_blanked, length_merged, blanked_twice, get_or_merged, merged_has, LastMarked, count_last}
 use Rattle.code.proofs.Distance.{codewords_apart}
 

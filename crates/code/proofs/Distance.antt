@@ -1,11 +1,11 @@
 -- Two codewords of c checks that differ in at most c places are equal.
-use Rattle.std.proofs.Common.{◌≡◌, ℕ, zero, suc, ◌+◌, ◌-◌, ◌<◌, ◌≤◌, Bool, true, false, not, T, eqb, ◌≢◌, List, [], ◌∷◌, length, sym, refl, ap, ◌∙◌, subst, ap₂, suc-le-suc, zero-le, le_of_suc-le-suc, not-suc-le-zero, arith, eqb→eq}
+use Rattle.std.proofs.Common.{◌≡◌, ℕ, zero, suc, ◌-◌, ◌<◌, ◌≤◌, Bool, true, false, not, T, eqb, List, [], ◌∷◌, length, sym, refl, ap, ◌∙◌, subst, ap₂, arith, eqb→eq}
 use native.Mathlib.Nat.{suc_inj}
 use Rattle.field.specs.Arithmetic.{Arithmetic, power, minus}
 use Rattle.field.specs.Systems.{System, Symbol}
 use Rattle.field.proofs.Symbols.{symbol_path}
 use Rattle.code.specs.Equations.{moment, Lacks, Distinct}
-use Rattle.code.specs.Codewords.{locator, syndrome, Codeword, differences, count, distance}
+use Rattle.code.specs.Codewords.{locator, syndrome, differences, count}
 use Rattle.code.specs.Erasures.{picked, locators}
 use Rattle.code.specs.Acceptance.{CodewordsAreApart}
 use Rattle.field.proofs.Algebra.{nil_plus, nil_times, times_nil, minus_self, minus_four, times_minus}

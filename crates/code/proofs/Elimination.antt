@@ -1,8 +1,8 @@
 -- Values at distinct locators are given by their sums: one locator is eliminated at a time.
-use Rattle.std.proofs.Common.{◌≡◌, ℕ, zero, suc, ◌+◌, ◌<◌, ◌≤◌, ◌≢◌, List, [], ◌∷◌, length, sym, refl, ap, ◌∙◌, ap₂, suc-le-suc, zero-le, le_of_suc-le-suc, not-suc-le-zero, arith}
+use Rattle.std.proofs.Common.{◌≡◌, ℕ, zero, suc, ◌<◌, List, [], ◌∷◌, length, sym, refl, ap, ◌∙◌, ap₂, suc-le-suc, zero-le, le_of_suc-le-suc, not-suc-le-zero, arith}
 use native.Mathlib.Nat.{suc_inj}
 use Rattle.field.specs.Arithmetic.{Arithmetic, power, minus}
-use Rattle.code.specs.Equations.{moment, Lacks, Distinct, Solution, OneSolution}
+use Rattle.code.specs.Equations.{moment, Lacks, Distinct, OneSolution}
 use Rattle.field.proofs.Algebra.{nil_plus, times_nil, times_minus, minus_four, minus_plus, plus_minus, apart_minus}
 
 module _ {A : Type 0} where

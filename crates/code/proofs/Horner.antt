@@ -1,5 +1,5 @@
 -- A syndrome as it grows by one symbol at the end.
-use Rattle.std.proofs.Common.{◌≡◌, ℕ, ◌+◌, ◌<◌, List, [], ◌∷◌, ◌++◌, map, length, get_or, take, sym, refl, ap, ◌∙◌, ap₂, add-one, length-append}
+use Rattle.std.proofs.Common.{◌≡◌, ℕ, ◌+◌, ◌<◌, List, [], ◌∷◌, ◌++◌, length, get_or, take, sym, refl, ap, ◌∙◌, ap₂, add-one, length-append}
 use Rattle.std.proofs.lemmas.List.{take_more}
 use Rattle.field.specs.Arithmetic.{Arithmetic, power}
 use Rattle.field.specs.Systems.{System, Symbol, symbol}

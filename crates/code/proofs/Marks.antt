@@ -1,11 +1,11 @@
 -- Lists with marked places: the loops that go through them, one place at a time.
-use Rattle.std.proofs.Common.{◌≡◌, ℕ, zero, suc, ◌+◌, ◌-◌, ◌<◌, ◌≤◌, Bool, true, false, cond, leb, List, [], ◌∷◌, ◌++◌, length, get_or, take, drop, set, sym, refl, ap, ◌∙◌, subst, ap₂, append_assoc, le_of_suc-le-suc, add-one, arith, length-drop, length-set, length-take, drop-cons}
+use Rattle.std.proofs.Common.{◌≡◌, ℕ, zero, suc, ◌+◌, ◌<◌, ◌≤◌, Bool, true, false, cond, leb, List, [], ◌∷◌, ◌++◌, length, get_or, take, drop, set, sym, refl, ap, ◌∙◌, subst, ap₂, append_assoc, le_of_suc-le-suc, add-one, arith, drop-cons}
 use native.Mathlib.Decide.{dec_lt}
 use native.Mathlib.Nat.{suc_inj}
 use Rattle.std.proofs.lemmas.List.{ext_get_or, append-nil, drop-set-lt, take_more, take_more_set, take_all, drop_all}
 use Rattle.std.proofs.lemmas.Bool.{le-leb, lt-leb}
 use Rattle.code.specs.Codewords.{count}
-use Rattle.code.specs.Erasures.{picked, blanked, merged}
+use Rattle.code.specs.Erasures.{blanked, merged}
 
 pub count_push : (bs : List Bool) (b : Bool) → count (bs ++ b ∷ []) ≡ cond b (count bs + 1) (count bs)
 count_push [] true = omega arith

@@ -1,10 +1,10 @@
 -- One symbol changed: what it does to the syndromes, and the lists within one symbol that are codewords.
-use Rattle.std.proofs.Common.{◌≡◌, ℕ, zero, suc, ◌+◌, ◌-◌, ◌<◌, ◌≤◌, Bool, true, false, ◌≢◌, ◌⊎◌, List, [], ◌∷◌, length, get_or, set, Some, None, Option, sym, refl, ap, ◌∙◌, subst, ap₂, inl, inr, le_of_suc-le-suc, mod-eq_of_lt, add-one, arith, length-set, get_or-set_same}
+use Rattle.std.proofs.Common.{◌≡◌, ℕ, zero, suc, ◌+◌, ◌-◌, ◌<◌, ◌≤◌, ◌≢◌, ◌⊎◌, List, [], ◌∷◌, length, get_or, set, Some, None, Option, sym, refl, ap, ◌∙◌, subst, ap₂, inl, inr, le_of_suc-le-suc, mod-eq_of_lt, add-one, arith, length-set, get_or-set_same}
 use lib.ListN.{length-map, get_or-map}
 use Rattle.std.proofs.lemmas.List.{map-set, set-get_or}
 use Rattle.field.specs.Arithmetic.{Arithmetic, power, minus}
 use Rattle.field.specs.Systems.{System, Symbol, symbol, product_of, partner_of, difference_of}
-use Rattle.field.proofs.Algebra.{nil_plus, nil_times, cancel, times_minus, minus_four, minus_self, minus_plus, opp_plus}
+use Rattle.field.proofs.Algebra.{nil_plus, nil_times, cancel, times_minus, minus_four, minus_self, opp_plus}
 use Rattle.field.proofs.Symbols.{symbol_is, symbol_nil, symbol_path, product_is}
 use Rattle.code.specs.Codewords.{Symbols, Codeword, locator, syndrome, symbols, syndrome_of, distance}
 use Rattle.code.specs.Acceptance.{Near, Accepted, Geometric, Position, Located, Judged}

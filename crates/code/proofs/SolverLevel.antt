@@ -1,5 +1,5 @@
 -- One level of the solver's recursion.
-use Rattle.std.proofs.Common.{◌≡◌, ℕ, zero, suc, ◌+◌, ◌-◌, ◌<◌, ◌≤◌, List, [], ◌∷◌, ◌++◌, length, get_or, take, drop, set, sym, refl, ap, ◌∙◌, subst, ap₂, append-nil, le_of_suc-le-suc, add-one, arith, length-drop, drop_of_length-le}
+use Rattle.std.proofs.Common.{◌≡◌, ℕ, zero, suc, ◌-◌, ◌<◌, List, [], ◌∷◌, ◌++◌, length, get_or, take, drop, set, sym, refl, ap, ◌∙◌, subst, ap₂, append-nil, le_of_suc-le-suc, add-one, arith, length-drop, drop_of_length-le}
 use native.Mathlib.Nat.{suc_inj}
 use lib.ListN.{length-map}
 use borrow.Rule.Slice.PartMut.{put_mid}

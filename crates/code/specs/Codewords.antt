@@ -1,5 +1,5 @@
 -- Syndromes of a list of symbols, the codewords of c checks, and how far two lists are apart.
-use Rattle.std.specs.Prelude.{◌≡◌, ℕ, suc, ◌-◌, ◌<◌, ◌≤◌, Bool, true, false, not, List, [], ◌∷◌, map, length, MatchBool, ◌==◌}
+use Rattle.std.specs.Prelude.{◌≡◌, ℕ, suc, ◌<◌, ◌≤◌, Bool, true, false, not, List, [], ◌∷◌, map, length, MatchBool, ◌==◌}
 use Rattle.field.specs.Arithmetic.{power}
 use Rattle.field.specs.Systems.{System, Symbol, symbol}
 

@@ -1,6 +1,6 @@
 -- Lists with some of their places marked as unknown.
 use Rattle.std.specs.Prelude.{◌≡◌, ℕ, zero, suc, ◌<◌, Bool, true, false, List, [], ◌∷◌, length, slice_index, slice_index_or}
-use Rattle.field.specs.Systems.{System, Symbol}
+use Rattle.field.specs.Systems.{System}
 use Rattle.code.specs.Codewords.{Symbols, Codeword, locator, symbols, count}
 
 module _ {A : Type 0} where

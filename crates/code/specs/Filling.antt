@@ -1,6 +1,6 @@
 -- Erasures: places whose symbols are unknown, and the contents of these places that make a codeword.
-use Rattle.std.specs.Prelude.{◌≡◌, ℕ, ◌+◌, ◌-◌, ◌<◌, ◌≤◌, Bool, true, false, ◌≢◌, List, length, Ok, Err, Result, slice_index, slice_index_or}
-use Rattle.field.specs.Systems.{System, Symbol}
+use Rattle.std.specs.Prelude.{◌≡◌, ℕ, ◌+◌, ◌<◌, ◌≤◌, Bool, true, false, ◌≢◌, List, length, Ok, Err, Result, slice_index, slice_index_or}
+use Rattle.field.specs.Systems.{System}
 use Rattle.code.specs.Codewords.{Symbols, Codeword, symbols, count}
 use Rattle.code.specs.declared.error.CodeError.{CodeError}
 use Rattle.code.specs.declared.error.CodeError.TheVariants.{UnequalLengths, TooLong, TooFewChecks, TooManyChecks, TooManyUnknown, NoCodeword}

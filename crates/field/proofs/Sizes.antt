@@ -1,5 +1,5 @@
 -- How many symbols there can be, and how many in a byte.
-use Rattle.std.proofs.Common.{◌≡◌, ℕ, zero, suc, ◌*◌, ◌^◌, ◌<◌, ◌≤◌, sym, ap, ◌∙◌, mul-le-mul_right, one-mul, pow-suc, arith}
+use Rattle.std.proofs.Common.{◌≡◌, ℕ, zero, suc, ◌*◌, ◌^◌, ◌<◌, ◌≤◌, mul-le-mul_right, one-mul, pow-suc, arith}
 use native.Mathlib.Nat.{pow-zero, one-le-pow}
 use Rattle.field.specs.Systems.{System}
 

@@ -1,6 +1,8 @@
 // Number systems and fields: the arithmetic of the symbols that the codes are made of. A number system is known by one ghost
 // record that holds its operations together with the laws they keep; generic code rests on these laws and on nothing else. The
 // byte field and the half-byte field are given here.
+#![tactic(auto)]
+
 ghost use Rattle.std.specs.Prelude.{◌≡◌};
 ghost use Rattle.field.specs.Systems.{System, sum_of, product_of, opposite_of, partner_of, difference_of, power_of};
 

@@ -1,4 +1,4 @@
-use Rattle.std.proofs.Common.{◌≡◌, ℕ, ◌+◌, ◌-◌, ◌<◌, sym, ap, ◌∙◌, add-one, arith, below_more}
+use Rattle.std.proofs.Common.{◌≡◌, ◌-◌, sym, ap, ◌∙◌, add-one, arith, below_more}
 use Rattle.field.proofs.Symbols.{symbol_is, product_is}
 use Rattle.code.specs.Codewords.{locator}
 use Rattle.code.proofs.correct.position_of.Goals as goal

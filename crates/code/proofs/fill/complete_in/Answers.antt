@@ -1,4 +1,4 @@
-use Rattle.std.proofs.Common.{◌≡◌, length, sym, ap, ◌∙◌, subst, arith}
+use Rattle.std.proofs.Common.{length, sym, subst, arith}
 use Rattle.field.specs.Systems.{Symbol}
 use Rattle.code.specs.Equations.{Distinct}
 use Rattle.code.specs.Erasures.{locators}
@@ -11,11 +11,11 @@ solve-requires g c =
     let s = g.F.NumberSystem.system in
     let bs = c.args.unknown.now in (
       omega arith,
-      subst (λ l. Distinct {A = Symbol s.order} l) (sym c.write-locators.ensures) (distinct_picked bs (locators s (length bs)) (distinct_locators s (length bs) (omega arith))),
+      subst (λ l. Distinct {A = Symbol s.order} l) (sym c.write_locators.ensures) (distinct_picked bs (locators s (length bs)) (distinct_locators s (length bs) (omega arith))),
     )
 
 pub returns : goal.returns
 returns g c =
-    completed g.F.NumberSystem.system c.args.unknown.now c.args.symbols.now c.copy-known.new.out c.write-locators.new.out c.write-wanted.new.out
-    c.solve.new.sums c.put-values.new.out c.requires.fits.0 c.copy-known.ensures c.write-locators.ensures
-    (omega arith) (omega arith) (omega arith) c.write-wanted.ensures c.solve.ensures c.put-values.ensures
+    completed g.F.NumberSystem.system c.args.unknown.now c.args.symbols.now c.copy_known.new.out c.write_locators.new.out c.write_wanted.new.out
+    c.solve.new.sums c.put_values.new.out c.requires.fits.0 c.copy_known.ensures c.write_locators.ensures
+    (omega arith) (omega arith) (omega arith) c.write_wanted.ensures c.solve.ensures c.put_values.ensures

@@ -20,8 +20,8 @@ loop-p-preserved c =
     let lb : p < length bs = omega arith in
     let h = c.loop-p.invariant in
     elim c.if-unknown-p.branch [
-      | then-unknown-p w ↦ merging_then 0 bs out was vs p k l lb h c.if-unknown-p.out c.if-unknown-p.k w.if-unknown-p.true w.out-is w.k_is
-      | else-unknown-p w ↦ merging_else 0 bs out was vs p k l lb h c.if-unknown-p.out c.if-unknown-p.k w.if-unknown-p.false w.out-is w.k_is
+      | then-unknown-p w ↦ merging_then 0 bs out was vs p k l lb h c.if-unknown-p.out c.if-unknown-p.k w.if-unknown-p.true w.out-is w.k-is
+      | else-unknown-p w ↦ merging_else 0 bs out was vs p k l lb h c.if-unknown-p.out c.if-unknown-p.k w.if-unknown-p.false w.out-is w.k-is
     ]
 
 pub returns : goal.returns

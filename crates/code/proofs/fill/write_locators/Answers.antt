@@ -30,8 +30,8 @@ loop-p-preserved g c =
           let v-is : symbol s w.locator.result ≡ X = symbol_is s w.locator.result X w.locator.ensures in
           let left = left_marked bs p k r l w.if-unknown-p.true h.0 in
           let lk : k < length out = omega (arith, left.0) in
-          locating_then s bs r p k out l h o w.locator.result m lk w.if-unknown-p.true v-is w.out-is w.k_is
-      | else-unknown-p w ↦ locating_else s bs r p k out l h o m w.if-unknown-p.false w.out-is w.k_is
+          locating_then s bs r p k out l h o w.locator.result m lk w.if-unknown-p.true v-is w.out-is w.k-is
+      | else-unknown-p w ↦ locating_else s bs r p k out l h o m w.if-unknown-p.false w.out-is w.k-is
     ]
 
 pub returns : goal.returns

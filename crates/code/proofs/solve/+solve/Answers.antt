@@ -1,7 +1,5 @@
-use Rattle.std.proofs.Common.{◌≡◌, ℕ, ◌-◌, ◌<◌, length, take, drop, sym, refl, ap, ◌∙◌, subst, arith}
+use Rattle.std.proofs.Common.{◌≡◌, ◌-◌, ◌<◌, length, take, drop, sym, refl, ap, ◌∙◌, subst, arith}
 use borrow.Rule.Slice.PartMut.{put_mid}
-use Rattle.code.specs.Codewords.{symbols}
-use Rattle.code.specs.Equations.{Distinct}
 use Rattle.code.proofs.SolverLevel.{rest_length, tail_distinct, level}
 use Rattle.code.proofs.solve.+solve.Goals as goal
 

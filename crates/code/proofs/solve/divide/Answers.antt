@@ -1,5 +1,5 @@
-use Rattle.std.proofs.Common.{◌<◌, length, arith}
-use Rattle.code.proofs.SolverLoops.{Dividing, dividing_start, dividing_next}
+use Rattle.std.proofs.Common.{arith}
+use Rattle.code.proofs.SolverLoops.{dividing_start, dividing_next}
 use Rattle.code.proofs.solve.divide.Goals as goal
 
 pub loop-k-init : goal.loop-k-init

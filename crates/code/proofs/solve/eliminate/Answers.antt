@@ -1,5 +1,5 @@
-use Rattle.std.proofs.Common.{◌≡◌, arith}
-use Rattle.code.proofs.SolverLoops.{Eliminating, eliminating_start, eliminating_next}
+use Rattle.std.proofs.Common.{arith}
+use Rattle.code.proofs.SolverLoops.{eliminating_start, eliminating_next}
 use Rattle.code.proofs.solve.eliminate.Goals as goal
 
 pub loop-k-init : goal.loop-k-init

@@ -23,10 +23,10 @@ pub returns-else-b-eq0 : goal.returns-else-b-eq0
 returns-else-b-eq0 c =
     let a = c.args.a in
     let b = c.args.b in
-    let i = c.logarithm-of.result in
-    let j = c.logarithm-of-else-b-eq0.result in
-    let whole : c.power-of.result ≡ byte_product a b =
-    c.power-of.ensures ∙ power_mod byte_primitive (i + j) ∙ sym (product_powers byte_primitive i j)
-    ∙ ap₂ byte_product (c.logarithm-of.ensures.power (omega arith)) (c.logarithm-of-else-b-eq0.ensures.power (omega arith))
+    let i = c.logarithm_of.result in
+    let j = c.logarithm_of-else-b-eq0.result in
+    let whole : c.power_of.result ≡ byte_product a b =
+    c.power_of.ensures ∙ power_mod byte_primitive (i + j) ∙ sym (product_powers byte_primitive i j)
+    ∙ ap₂ byte_product (c.logarithm_of.ensures.power (omega arith)) (c.logarithm_of-else-b-eq0.ensures.power (omega arith))
     in
-    record { product = reduced a b c.power-of.result (omega arith) (omega arith) whole; polynomial = whole }
+    record { product = reduced a b c.power_of.result (omega arith) (omega arith) whole; polynomial = whole }

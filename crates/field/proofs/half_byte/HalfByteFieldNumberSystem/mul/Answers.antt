@@ -12,7 +12,7 @@ loop-i-init c = (omega arith, refl, sym (div-one (c.args.b % 16)), refl)
 pub loop-i-preserved : goal.loop-i-preserved
 unfolding times_power
 loop-i-preserved c =
-    let i = c.loop-i.-i in
+    let i = c.loop-i._i in
     let a = c.args.a % 16 in
     let b = c.args.b % 16 in
     let p = half_byte_polynomial in
@@ -27,8 +27,8 @@ loop-i-preserved c =
           ∙ part_without 4 p i a b c.loop-i.r sums (let none : c.loop-i.left % 2 ≡ 0 = omega (arith, w.if-left-eq1.false) in bit ∙ none)
     ]
     in (
-      c.times-x-shifted.ensures.small,
-      c.times-x-shifted.ensures.shifted ∙ ap (times_x 4 p) shifts ∙ ap (λ j. times_power 4 p j a) (sym (add-one i)),
+      c.times_x-shifted.ensures.small,
+      c.times_x-shifted.ensures.shifted ∙ ap (times_x 4 p) shifts ∙ ap (λ j. times_power 4 p j a) (sym (add-one i)),
       ap (λ x. x / 2) left_is ∙ shr-shr b i 1,
       next ∙ ap (λ j. times_part 4 p j a b) (sym (add-one i)),
     )
@@ -36,6 +36,6 @@ loop-i-preserved c =
 pub returns : goal.returns
 unfolding product
 returns c =
-    let end : c.loop-i.-i ≡ 4 = omega arith in
+    let end : c.loop-i._i ≡ 4 = omega arith in
     let whole = c.loop-i.invariant.3 ∙ ap (λ j. times_part 4 half_byte_polynomial j (c.args.a % 16) (c.args.b % 16)) end in
     record { product = whole; polynomial = whole }
