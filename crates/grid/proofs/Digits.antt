@@ -1,6 +1,6 @@
 -- Digits of a number in a base: one of them replaced, and numbers with the same digits.
-use Rattle.std.proofs.Common.{◌≡◌, ℕ, zero, suc, ◌+◌, ◌-◌, ◌*◌, ◌/◌, ◌%◌, ◌^◌, ◌<◌, ◌≤◌, ◌⊎◌, sym, refl, ap, ◌∙◌, subst, ap₂, inl, inr, suc-le-suc, zero-le, add_assoc, mod-lt, mul_assoc, mul_comm, div-lt_iff_lt-mul, add-mul, add_comm, one-mul, pow-suc, div-add-mod', mul-one, div-one, arith, pow-add}
-use native.Mathlib.Nat.{pow-zero, pow-succ', div-div-eq-div-mul, mod-one, one-le-pow, add-mul-div_right, add-mul-mod_self_right}
+use Rattle.std.proofs.Common.{◌≡◌, ℕ, zero, suc, ◌+◌, ◌-◌, ◌*◌, ◌/◌, ◌%◌, ◌^◌, ◌<◌, ◌⊎◌, sym, ap, ◌∙◌, subst, ap₂, inl, inr, suc-le-suc, zero-le, add_assoc, mod-lt, mul_assoc, mul_comm, div-lt_iff_lt-mul, add-mul, add_comm, one-mul, pow-suc, div-add-mod', div-one, arith, pow-add}
+use native.Mathlib.Nat.{pow-zero, pow-succ', div-div-eq-div-mul, one-le-pow, add-mul-div_right, add-mul-mod_self_right}
 use lib.Arith.{digits_lt, digits_div, digits_mod}
 use Rattle.std.proofs.lemmas.Bool.{cases_order}
 

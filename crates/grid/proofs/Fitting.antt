@@ -1,7 +1,7 @@
 -- Which grids fit a field.
-use Rattle.std.proofs.Common.{◌≡◌, ℕ, ◌+◌, ◌-◌, ◌*◌, ◌/◌, ◌<◌, ◌≤◌, Bool, true, false, cond, eqb, ltb, Ok, Err, Result, sym, refl, ap, ◌∙◌, subst, ap₂, mul-le-mul_right, add-mul, le-div_iff_mul-le, le-mul_of_pos_right, arith}
+use Rattle.std.proofs.Common.{◌≡◌, ℕ, ◌+◌, ◌-◌, ◌*◌, ◌/◌, ◌<◌, ◌≤◌, Bool, true, false, cond, eqb, ltb, Ok, Err, Result, sym, refl, ap, ◌∙◌, subst, mul-le-mul_right, add-mul, le-div_iff_mul-le, le-mul_of_pos_right, arith}
 use native.Mathlib.Decide.{dec_lt}
-use Rattle.std.proofs.lemmas.Bool.{lt-ltb, le-ltb, eq-eqb, ne_eqb, ltb-true, ltb-false}
+use Rattle.std.proofs.lemmas.Bool.{lt-ltb, le-ltb, eq-eqb, ne_eqb}
 use Rattle.field.specs.Systems.{System}
 use Rattle.field.proofs.Sizes.{per_some, order_small}
 use Rattle.code.specs.declared.error.CodeError.{CodeError}

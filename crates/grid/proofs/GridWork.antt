@@ -1,11 +1,10 @@
 -- Grids whose rows or columns are worked on one after another.
-use Rattle.std.proofs.Common.{◌≡◌, ℕ, ◌+◌, ◌-◌, ◌*◌, ◌/◌, ◌%◌, ◌<◌, ◌≤◌, List, length, get_or, sym, refl, ap, ◌∙◌, subst, ap₂, mul-le-mul_right, mul_assoc, add-mul, mul-le-mul, one-mul, mul-zero, mul-one, arith}
-use native.Mathlib.Decide.{ℕ_discrete, dec_lt}
+use Rattle.std.proofs.Common.{◌≡◌, ℕ, ◌+◌, ◌*◌, ◌/◌, ◌%◌, ◌<◌, ◌≤◌, List, length, sym, refl, ap, ◌∙◌, subst, mul-le-mul_right, mul_assoc, add-mul, mul-le-mul, one-mul, mul-one, arith}
+use native.Mathlib.Decide.{ℕ_discrete}
 use lib.Arith.{digits_lt, digits_div, digits_mod}
 use Rattle.field.specs.Systems.{System}
 use Rattle.field.proofs.Sizes.{order_small}
-use Rattle.grid.specs.Packing.{symbol_at}
-use Rattle.grid.specs.Grids.{rows_of, row_bytes, row_symbols, data_symbols, line, row, column}
+use Rattle.grid.specs.Grids.{rows_of, row_bytes, row_symbols, row, column}
 use Rattle.grid.specs.Lines.{Within, Redone}
 use Rattle.grid.specs.declared.shape.Shape.{Shape}
 use Rattle.grid.proofs.LineWork.{same_line}

@@ -1,13 +1,12 @@
 -- Lines that are copied out, worked on and copied back.
-use Rattle.std.proofs.Common.{◌≡◌, ℕ, ◌+◌, ◌-◌, ◌*◌, ◌%◌, ◌<◌, ◌≤◌, Bool, true, false, ltb, ◌⊎◌, List, map, length, get_or, set, is_ok, Ok, Err, MatchBool, Result, sym, refl, ap, ◌∙◌, subst, ap₂, inl, inr, mod-eq_of_lt, mul-lt-mul_of_pos_right, mul-one, arith, get_or-set_other}
+use Rattle.std.proofs.Common.{◌≡◌, ℕ, ◌+◌, ◌*◌, ◌%◌, ◌<◌, ◌≤◌, Bool, true, false, ltb, List, length, get_or, is_ok, Ok, Err, MatchBool, Result, sym, refl, ap, ◌∙◌, subst, mod-eq_of_lt, mul-lt-mul_of_pos_right, mul-one, arith, get_or-set_other}
 use native.Mathlib.Decide.{ℕ_discrete, dec_lt}
-use Rattle.std.specs.List.{range_with_len}
 use Rattle.std.proofs.lemmas.List.FromFn.{length-map-range_with_len, get_or-map-range_with_len, fill_by_all}
 use Rattle.std.proofs.lemmas.List.{ext_get_or}
 use Rattle.std.proofs.lemmas.Bool.{le-ltb}
 use Rattle.field.specs.Systems.{System}
-use Rattle.code.specs.Codewords.{Symbols, symbols, count}
-use Rattle.code.specs.Filling.{Completes, Filled, Filling, Encoded, Encoding}
+use Rattle.code.specs.Codewords.{symbols, count}
+use Rattle.code.specs.Filling.{Filled, Filling, Encoded, Encoding}
 use Rattle.code.specs.Acceptance.{Judged, Correction}
 use Rattle.code.specs.declared.correct.Verdict.{Verdict}
 use Rattle.code.specs.declared.correct.Verdict.TheVariants.{Clean, Corrected, OutOfReach}

@@ -1,6 +1,6 @@
 -- The parts of a byte, and the symbols of a byte string.
-use Rattle.std.proofs.Common.{◌≡◌, ℕ, ◌+◌, ◌-◌, ◌*◌, ◌/◌, ◌%◌, ◌^◌, ◌<◌, ◌≤◌, Bool, true, false, cond, eqb, ◌⊎◌, List, map, length, get_or, set, Ok, Err, sym, refl, ap, ◌∙◌, subst, ap₂, inl, inr, add-zero, mod-lt, mod-eq_of_lt, div-lt_iff_lt-mul, pow-suc, div-add-mod', add-one, arith, get_or-set_other, get_or-set_same}
-use native.Mathlib.Nat.{pow-zero, pow-le-pow_right, div-eq_of_lt, div-zero, one-le-pow}
+use Rattle.std.proofs.Common.{◌≡◌, ℕ, ◌+◌, ◌-◌, ◌*◌, ◌/◌, ◌%◌, ◌^◌, ◌<◌, ◌≤◌, true, false, cond, eqb, List, map, length, get_or, set, Ok, Err, sym, ap, ◌∙◌, subst, ap₂, add-zero, mod-lt, mod-eq_of_lt, div-lt_iff_lt-mul, pow-suc, div-add-mod', add-one, arith, get_or-set_other, get_or-set_same}
+use native.Mathlib.Nat.{pow-le-pow_right, div-eq_of_lt, one-le-pow}
 use native.Mathlib.Decide.{ℕ_discrete}
 use lib.Arith.{digits_div, digits_mod, digits_lt}
 use lib.ListN.{length-map}
@@ -8,10 +8,10 @@ use Rattle.std.proofs.lemmas.List.{ext_get_or, get_or_past, get_or-map}
 use Rattle.std.proofs.lemmas.List.FromFn.{length-map-range_with_len, get_or-map-range_with_len, fill_by_all}
 use Rattle.std.proofs.lemmas.Bool.{eq-eqb, ne_eqb}
 use Rattle.field.specs.Systems.{System}
-use Rattle.field.proofs.Sizes.{order_small, per_some}
+use Rattle.field.proofs.Sizes.{per_some}
 use Rattle.code.specs.declared.error.CodeError.TheVariants.{UnequalLengths}
 use Rattle.grid.specs.Packing.{Bytes, part, symbol_at, unpacked, length_reply, SymbolsTellBytes}
-use Rattle.grid.proofs.Digits.{digit, replaced, digit_here, digit_other, replaced_small, same_digits}
+use Rattle.grid.proofs.Digits.{replaced, digit_here, digit_other, replaced_small, same_digits}
 
 module _ (s : System) where
   -- powers of q up to m are at most 256

@@ -1,11 +1,11 @@
 -- The calls on lines that work through a grid, from the sizes that were measured.
-use Rattle.std.proofs.Common.{◌≡◌, ℕ, ◌+◌, ◌-◌, ◌*◌, ◌%◌, ◌<◌, ◌≤◌, Bool, List, length, get_or, MatchBool, sym, refl, ap, ◌∙◌, subst, ap₂, mod-eq_of_lt, mul_assoc, mul-le-mul, arith}
+use Rattle.std.proofs.Common.{◌≡◌, ℕ, ◌+◌, ◌*◌, ◌%◌, ◌<◌, ◌≤◌, Bool, List, length, get_or, MatchBool, sym, refl, ap, ◌∙◌, subst, ap₂, mod-eq_of_lt, mul_assoc, mul-le-mul, arith}
 use native.Mathlib.Decide.{ℕ_discrete}
 use lib.Arith.{digits_lt, digits_mod}
 use Rattle.field.specs.Systems.{System}
 use Rattle.field.proofs.Sizes.{order_small}
 use Rattle.code.specs.Codewords.{Codeword, symbols, syndrome, syndrome_of}
-use Rattle.grid.specs.Grids.{rows_of, row_bytes, row_symbols, data_symbols, check_symbols, line, row, column}
+use Rattle.grid.specs.Grids.{rows_of, row_symbols, data_symbols, check_symbols, line, row, column}
 use Rattle.grid.specs.Packing.{symbol_at}
 use Rattle.grid.specs.Lines.{Within, Written, Redone, Fillable}
 use Rattle.grid.specs.Measures.{Sized}

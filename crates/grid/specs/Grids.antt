@@ -1,5 +1,5 @@
 -- A grid of symbols kept in bytes: rows of data bytes and check bytes, data rows and then check rows.
-use Rattle.std.specs.Prelude.{◌≡◌, ℕ, ◌+◌, ◌*◌, ◌<◌, ◌≤◌, Bool, true, false, cond, List, map, length, Ok, Err, Result, ◌==◌, nat_lt, slice_index_or}
+use Rattle.std.specs.Prelude.{◌≡◌, ℕ, ◌+◌, ◌*◌, ◌<◌, ◌≤◌, Bool, false, cond, List, map, length, Ok, Err, Result, ◌==◌, nat_lt, slice_index_or}
 use Rattle.std.specs.List.{range_with_len}
 use Rattle.field.specs.Systems.{System}
 use Rattle.code.specs.Codewords.{Codeword, Tells, symbols, syndrome_of}

@@ -1,5 +1,7 @@
 // Grids of symbols kept in bytes: how symbols are packed, and the row code and the column code on many rows in one call. Each
 // contract says what the bytes hold afterwards, by the codewords of the rows or columns, and nothing of how it is worked out.
+#![tactic(auto)]
+
 pub mod columns;
 mod lines;
 pub mod packing;

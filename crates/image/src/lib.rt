@@ -1,6 +1,8 @@
 // A block store over memory that it is handed: cells of two bytes more than the width.
 // A cell that begins 01h 00h holds a block in its other bytes; any other pair of first bytes means blank.
 // Each call changes at most the bytes of one cell, and the contract says what the whole memory holds afterwards.
+#![tactic(auto)]
+
 ghost use Rattle.std.specs.Prelude.{◌≡◌, ◌+◌, ◌*◌, ◌≤◌, true, length, is_some, MatchOption};
 ghost use Rattle.std.specs.Option.{unwrap_or};
 ghost use Rattle.store.specs.Store.{Bytes, put_reply, put_after, clear_reply, clear_after};

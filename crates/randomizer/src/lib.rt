@@ -1,5 +1,7 @@
 // A block store over another one, which it holds by value: the store below holds each block byte by byte under a fixed sequence of bytes, and a get gives the plain block.
 // The sequence comes from a preset of seven bits, by the recurrence s(t + 7) = (s(t + 3) + s(t)) mod 2, and begins anew with each block.
+#![tactic(auto)]
+
 mod sequence;
 
 ghost use Rattle.std.specs.Prelude.{◌≡◌, if◌then◌else◌};

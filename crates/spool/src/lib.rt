@@ -1,5 +1,7 @@
 // A block store that keeps its blocks, with their places, in the order in which the places first came.
 // The table's memory is taken once, when the spool is made: there is then room for each place, and none has two entries.
+#![tactic(auto)]
+
 mod entry;
 
 ghost use Rattle.std.specs.Prelude.{◌≡◌, ℕ, ◌<◌, ◌≤◌, true, ◌||◌, [], length, take, IfOk, Some, None, vec_len, vec_capacity, MatchOption, ◌==◌, ◌≢◌};

@@ -1,6 +1,8 @@
 // Block stores: a number of places, a width, and at each place a block of that width or nothing.
 // The trait says, for every call, what it answers and what the store holds afterwards, in one record of the whole store.
 // A refused call changes nothing, and no call is refused but for its place or its length.
+#![tactic(auto)]
+
 ghost use Rattle.std.specs.Prelude.{◌≡◌};
 ghost use Rattle.store.specs.Refusals.{number_of};
 ghost use Rattle.store.specs.Store.{Store, Sound, good_width, put_reply, put_after, clear_reply, clear_after, get_reply, get_after};

@@ -1,5 +1,7 @@
 // A block store that is some places in a row of another one, which it holds by value.
 // A window that would reach past the end of the store below has no places.
+#![tactic(auto)]
+
 ghost use Rattle.std.specs.Prelude.{◌≡◌, ◌<◌, ◌≤◌, MatchOption};
 ghost use Rattle.window.specs.Window.{window_places, windowed, Below};
 

@@ -8,5 +8,5 @@ returns-then-cell-eq0 c =
     let e = block_here c.args.cell.now c.if-cell-eq1.true c.if-cell-eq0.true in
     record {
       held = sym (ap is_some e);
-      after = c.copy-from-slice.ensures.after ∙ take_rest c.args.cell.now 2 ∙ sym (ap (λ o. unwrap_or o c.args.buffer.now) e);
+      after = c.copy_from_slice.ensures.after ∙ take_rest c.args.cell.now 2 ∙ sym (ap (λ o. unwrap_or o c.args.buffer.now) e);
     }

@@ -4,5 +4,5 @@ use Rattle.image.proofs.write_cell.Goals as goal
 
 pub returns : goal.returns
 returns c =
-    written c.args.cell.now c.args.block.now c.copy-from-slice.new.self _ c.requires c.copy-from-slice.ensures.after
+    written c.args.cell.now c.args.block.now c.copy_from_slice.new.self _ c.requires c.copy_from_slice.ensures.after
     (simp length-set)

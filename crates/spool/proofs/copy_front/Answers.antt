@@ -5,6 +5,6 @@ use Rattle.spool.proofs.copy_front.Goals as goal
 pub returns : goal.returns
 returns c =
     record {
-      front = take_at c.copy-from-slice.new.self _ (length c.args.block.now) (omega arith) ∙ c.copy-from-slice.ensures.after;
-      bytes = λ j. omega (arith, c.type-inv.bytes j);
+      front = take_at c.copy_from_slice.new.self _ (length c.args.block.now) (omega arith) ∙ c.copy_from_slice.ensures.after;
+      bytes = λ j. omega (arith, c.type_inv.bytes j);
     }

@@ -3,8 +3,8 @@ use Rattle.grid.specs.Lines.{FilledIf}
 use Rattle.grid.proofs.SizedWork.{columns_short, column_call, column_step}
 use Rattle.grid.proofs.columns.fill_columns.Goals as goal
 
-pub fill-line-requires : goal.fill-line-requires
-fill-line-requires g c =
+pub fill_line-requires : goal.fill_line-requires
+fill_line-requires g c =
     let long : length c.loop-j.word ≡ c.args.sizes.now.rows = c.loop-j.auto.word ∙ c.requires.lengths.0 in
     record {
       within = column_call g.F.NumberSystem.system c.args.shape.now (length c.args.bytes.now) c.args.sizes.now c.requires.sized c.loop-j.j (length c.loop-j.word) (length c.loop-j.bytes) c.loop-j-test.true long c.loop-j.auto.bytes;
@@ -17,5 +17,5 @@ loop-j-preserved g c =
     let s = g.F.NumberSystem.system in
     let P = FilledIf s c.args.shape.now.check_rows c.args.lost.now in
     let long : length c.loop-j.word ≡ c.args.sizes.now.rows = c.loop-j.auto.word ∙ c.requires.lengths.0 in
-    column_step g.F.NumberSystem.system c.args.shape.now (length c.args.bytes.now) c.args.sizes.now c.requires.sized P P c.loop-j.j (length c.loop-j.word) c.args.bytes.now c.loop-j.bytes c.fill-line.new.bytes c.loop-j-test.true long
-    (λ (x y : List ℕ) e. e) c.loop-j.invariant c.fill-line.auto.bytes c.fill-line.ensures
+    column_step g.F.NumberSystem.system c.args.shape.now (length c.args.bytes.now) c.args.sizes.now c.requires.sized P P c.loop-j.j (length c.loop-j.word) c.args.bytes.now c.loop-j.bytes c.fill_line.new.bytes c.loop-j-test.true long
+    (λ (x y : List ℕ) e. e) c.loop-j.invariant c.fill_line.auto.bytes c.fill_line.ensures

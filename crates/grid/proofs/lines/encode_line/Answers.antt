@@ -1,4 +1,4 @@
-use Rattle.std.proofs.Common.{length, arith}
+use Rattle.std.proofs.Common.{length}
 use Rattle.grid.proofs.LineWork.{encode_redone}
 use Rattle.grid.proofs.lines.encode_line.Goals as goal
 

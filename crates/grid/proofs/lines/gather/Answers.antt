@@ -6,8 +6,8 @@ use Rattle.grid.proofs.lines.gather.Goals as goal
 
 pub loop-i-preserved : goal.loop-i-preserved
 loop-i-preserved g c =
-    each_set 0 (λ i v. v ≡ symbol_at g.F.NumberSystem.system c.args.bytes.now (i * c.args.step + c.args.start)) c.loop-i.out c.loop-i.i c.symbol-at.result
-    (omega arith) c.loop-i.invariant c.symbol-at.ensures
+    each_set 0 (λ i v. v ≡ symbol_at g.F.NumberSystem.system c.args.bytes.now (i * c.args.step + c.args.start)) c.loop-i.out c.loop-i.i c.symbol_at.result
+    (omega arith) c.loop-i.invariant c.symbol_at.ensures
 
 pub returns : goal.returns
 returns g c =

@@ -1,4 +1,4 @@
-use Rattle.std.proofs.Common.{ℕ, ◌<◌, Bool, false, get_or, MatchBool}
+use Rattle.std.proofs.Common.{ℕ, ◌<◌, false, get_or, MatchBool}
 use Rattle.code.specs.Codewords.{Codeword, symbols}
 use Rattle.grid.specs.Grids.{check_symbols, row}
 use Rattle.grid.proofs.rows.codeword_rows.Given as goal

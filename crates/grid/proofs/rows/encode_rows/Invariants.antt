@@ -1,6 +1,5 @@
-use Rattle.std.proofs.Common.{◌≡◌, length}
 use Rattle.code.specs.Filling.{Encoded}
-use Rattle.grid.specs.Grids.{row_symbols, check_symbols}
+use Rattle.grid.specs.Grids.{check_symbols}
 use Rattle.grid.proofs.GridWork.{RowsDone}
 use Rattle.grid.proofs.rows.encode_rows.Given as goal
 

@@ -12,8 +12,8 @@ returns c =
     let place = c.args.place in
     let cell = c.in-Some.ensures in
     let k = ((c.in-Some.start + w) + 2) - c.in-Some.start in
-    let part = part_is_cell (w + 2) memory c.clear-cell.new.cell place c.in-Some.start k cell.starts (omega arith)
-    ∙ ap (with_cell (w + 2) memory place) (c.clear-cell.ensures ∙ ap unmarked (part_of_cell (w + 2) memory place c.in-Some.start k cell.starts (omega arith))) in
+    let part = part_is_cell (w + 2) memory c.clear_cell.new.cell place c.in-Some.start k cell.starts (omega arith)
+    ∙ ap (with_cell (w + 2) memory place) (c.clear_cell.ensures ∙ ap unmarked (part_of_cell (w + 2) memory place c.in-Some.start k cell.starts (omega arith))) in
     let d = clear_done (image_store w memory) _ place cell.there
     (ap (image_store w) part ∙ store_with_cell w memory (unmarked (cell_at (w + 2) memory place)) place c.in-Some.start _ cell (length_unmarked w memory place c.in-Some.start cell) refl) in
     record { reply = d.0; after = d.1; memory = part ∙ memory_clear_lem w memory place cell.there }

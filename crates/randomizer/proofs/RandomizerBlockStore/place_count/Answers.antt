@@ -7,6 +7,6 @@ pub returns : goal.returns
 returns g c =
     let s = c.args.self.now in
     record {
-      places = c.places-under.ensures.places ∙ ap (λ n. cond (good_preset s.preset) n 0) c.place-count.ensures.places;
-      sound = plain_sound (good_preset s.preset) s.sequence (g.S.BlockStore.store s.inner) c.places-under.ensures.bytes c.place-count.ensures.sound;
+      places = c.places_under.ensures.places ∙ ap (λ n. cond (good_preset s.preset) n 0) c.place_count.ensures.places;
+      sound = plain_sound (good_preset s.preset) s.sequence (g.S.BlockStore.store s.inner) c.places_under.ensures.bytes c.place_count.ensures.sound;
     }

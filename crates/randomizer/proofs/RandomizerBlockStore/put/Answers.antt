@@ -12,8 +12,8 @@ returns g c =
     let below = g.S.BlockStore.store s.inner in
     let block = c.args.block.now in
     let part : c.randomize.new.block ≡ mixed s.sequence block =
-    c.randomize.ensures.mixed ∙ ap (mixed s.sequence) c.copy-from-slice.ensures.after in
-    let t = sym c.is-preset.ensures ∙ c.if-not-is-preset.false in
+    c.randomize.ensures.mixed ∙ ap (mixed s.sequence) c.copy_from_slice.ensures.after in
+    let t = sym c.is_preset.ensures ∙ c.if-not-is_preset.false in
     let d = plain_put good s.sequence below c.args.place block t in
     record {
       reply = c.put.ensures.reply ∙ ap (put_reply below c.args.place) part ∙ d.0;

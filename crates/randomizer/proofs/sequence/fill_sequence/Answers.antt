@@ -7,8 +7,8 @@ use Rattle.randomizer.proofs.sequence.fill_sequence.Goals as goal
 pub loop-j-init : goal.loop-j-init
 loop-j-init c = (λ k h. absurd (omega arith), sym (after_none (c.args.preset % 128)))
 
-pub next-byte-byte-requires : goal.next-byte-byte-requires
-next-byte-byte-requires c =
+pub next_byte-byte-requires : goal.next_byte-byte-requires
+next_byte-byte-requires c =
     let a = after_small (c.args.preset % 128) (8 * c.loop-j.j) (omega arith) in let e = c.loop-j.invariant.1 in omega arith
 
 pub loop-j-preserved : goal.loop-j-preserved
@@ -20,8 +20,8 @@ loop-j-preserved c =
     let n : 8 * j + 8 ≡ 8 * (j + 1) = omega arith in (
       below_more _ _
           (λ k h. let ne : k ≢ j = omega arith in rw get_or-set_other (c.loop-j.invariant.0 k h))
-          (rw get_or-set_same (c.next-byte-byte.ensures.byte ∙ ap (λ x. packed (λ i. after x i / 64) 8) e ∙ byte_from p j)),
-      c.next-byte-byte.ensures.register ∙ ap (λ x. after x 8) e ∙ after_add (p % 128) (8 * j) 8 ∙ ap (after (p % 128)) n,
+          (rw get_or-set_same (c.next_byte-byte.ensures.byte ∙ ap (λ x. packed (λ i. after x i / 64) 8) e ∙ byte_from p j)),
+      c.next_byte-byte.ensures.register ∙ ap (λ x. after x 8) e ∙ after_add (p % 128) (8 * j) 8 ∙ ap (after (p % 128)) n,
     )
 
 pub returns : goal.returns

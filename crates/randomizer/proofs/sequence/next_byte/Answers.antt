@@ -11,27 +11,27 @@ seven x i h lt =
 pub loop-i-init : goal.loop-i-init
 loop-i-init c = (sym (packed_none (λ i. after c.args.register i / 64)), sym (after_none c.args.register))
 
-pub overflow-mul-byte : goal.overflow-mul-byte
-overflow-mul-byte c = let a = seven c.args.register c.loop-i.-i c.requires c.loop-i-test.true in omega arith
+pub overflow_mul-byte : goal.overflow_mul-byte
+overflow_mul-byte c = let a = seven c.args.register c.loop-i._i c.requires c.loop-i-test.true in omega arith
 
-pub overflow-add-byte : goal.overflow-add-byte
-overflow-add-byte c =
-    let a = seven c.args.register c.loop-i.-i c.requires c.loop-i-test.true in
-    let b = bit_small c.args.register c.loop-i.-i c.requires in
+pub overflow_add-byte : goal.overflow_add-byte
+overflow_add-byte c =
+    let a = seven c.args.register c.loop-i._i c.requires c.loop-i-test.true in
+    let b = bit_small c.args.register c.loop-i._i c.requires in
     let e = ap (λ x. x / 64) c.loop-i.invariant.1 in
     omega arith
 
 pub loop-i-preserved : goal.loop-i-preserved
 loop-i-preserved c =
     let x = c.args.register in
-    let i = c.loop-i.-i in
+    let i = c.loop-i._i in
     let m = packed_more (λ k. after x k / 64) i in
     let e = ap (λ y. y / 64) c.loop-i.invariant.1 in
     (omega arith, c.step-moving.ensures ∙ ap moved c.loop-i.invariant.1 ∙ sym (after_more x i))
 
 pub returns : goal.returns
 returns c =
-    let e : c.loop-i.-i ≡ 8 = omega arith in
+    let e : c.loop-i._i ≡ 8 = omega arith in
     record {
       byte = c.loop-i.invariant.0 ∙ ap (packed (λ k. after c.args.register k / 64)) e;
       register = c.loop-i.invariant.1 ∙ ap (after c.args.register) e;

@@ -15,7 +15,7 @@ returns-then-entry c =
     let n : s.width - 0 ≡ s.width = omega arith in
     let d = get_done (spool_store s.places s.width xs) c.args.place c.args.buffer.now _ _ _ c.if-place-self.false (omega arith)
     (store_at s.places s.width c.args.place xs _ c.if-place-self.false e) refl
-    (c.copy-from-slice.ensures.after ∙ ap (λ i. take i x.block) n) in
+    (c.copy_from_slice.ensures.after ∙ ap (λ i. take i x.block) n) in
     record { reply = d.0; after = d.1 }
 
 pub returns-else-entry : goal.returns-else-entry
@@ -30,12 +30,12 @@ returns-else-entry c =
     (store_at s.places s.width c.args.place xs _ c.if-place-self.false e) refl refl in
     record { reply = d.0; after = d.1 }
 
-pub returns-in-default : goal.returns-in-default
-returns-in-default c =
+pub returns-in_default : goal.returns-in_default
+returns-in_default c =
     let s = c.args.self.now in
     let xs = vec_items s.table in
     let len = s.table.ok.0 in
-    let e : lookup s.width xs c.args.place ≡ None = look_none s.width xs c.args.place (λ k h. c.in-default.ensures k (omega arith)) in
+    let e : lookup s.width xs c.args.place ≡ None = look_none s.width xs c.args.place (λ k h. c.in_default.ensures k (omega arith)) in
     let d = get_done (spool_store s.places s.width xs) c.args.place c.args.buffer.now _ _ _ c.if-place-self.false (omega arith)
     (store_at s.places s.width c.args.place xs _ c.if-place-self.false e) refl refl in
     record { reply = d.0; after = d.1 }

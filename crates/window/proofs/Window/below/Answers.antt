@@ -3,11 +3,11 @@ use Rattle.window.specs.Window.{window_places}
 use Rattle.window.proofs.Places.{below_is}
 use Rattle.window.proofs.Window.below.Goals as goal
 
-pub overflow-add-result : goal.overflow-add-result
-overflow-add-result g c =
+pub overflow_add-result : goal.overflow_add-result
+overflow_add-result g c =
     let s = c.args.self.now in
-    let n = c.place-count-places.result in
+    let n = c.place_count-places.result in
     let lt : c.args.place < window_places s.first s.count n = omega arith in
     let there = (below_is s.first s.count n c.args.place lt).there in
-    let small = c.place-count-places.type-inv in
+    let small = c.place_count-places.type_inv in
     omega arith

@@ -7,6 +7,6 @@ pub returns : goal.returns
 returns g c =
     let s = c.args.self.now in
     record {
-      places = c.window-places.ensures ∙ ap (window_places s.first s.count) c.place-count.ensures.places;
-      sound = window_sound s.first s.count (g.S.BlockStore.store s.inner) c.place-count.ensures.sound;
+      places = c.window_places.ensures ∙ ap (window_places s.first s.count) c.place_count.ensures.places;
+      sound = window_sound s.first s.count (g.S.BlockStore.store s.inner) c.place_count.ensures.sound;
     }
