@@ -1,5 +1,5 @@
 -- A number system under other labels: two maps that undo each other carry its operations over, and the laws with them.
-use Rattle.std.specs.Prelude.{◌≡◌, ℕ, zero, suc, ◌-◌, ◌<◌, ◌≢◌, refl}
+use Rattle.std.specs.Prelude.{◌≡◌, ℕ, zero, suc, refl}
 use Rattle.std.proofs.Common.{sym, ap, ap₂, ◌∙◌}
 use Rattle.field.specs.Arithmetic.{Arithmetic, power}
 use Rattle.field.specs.Systems.{System, Symbol}

@@ -1,5 +1,7 @@
 // The half-byte field under other labels: label 0 is 0, and label i + 1 is α^i. So its product adds labels, its sum is no xor, and
 // generic code that takes a sum for an xor goes wrong over it.
+#![tactic(auto)]
+
 ghost use Rattle.std.specs.Prelude.{◌≡◌, ◌+◌, ◌-◌, ◌%◌, ◌<◌, bit_xor};
 ghost use Rattle.field.specs.Systems.{sum_of, product_of, opposite_of, partner_of};
 ghost use Rattle.relabelled.specs.Labels.{label_system, value_of, label_of};

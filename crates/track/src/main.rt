@@ -1,5 +1,7 @@
 // The program: it takes one subcode row through the row code, and the block that holds it through a stack of stores, and says
 // what it did.
+#![tactic(auto)]
+
 use code::correct::Verdict;
 use code::error::CodeError;
 use field::half_byte::HalfByteField;

@@ -3,7 +3,7 @@ use lib.Bits.{xor_lt}
 use Rattle.relabelled.specs.Labels.{value_small}
 use Rattle.relabelled.proofs.RelabelledFieldNumberSystem.add.Goals as goal
 
-pub label-of-requires : goal.label-of-requires
-label-of-requires c =
-    xor_lt 4 c.value-of.result c.value-of-2.result
+pub label_of-requires : goal.label_of-requires
+label_of-requires c =
+    xor_lt 4 c.value_of.result c.value_of-2.result
     (omega (arith, value_small (c.args.a % 16))) (omega (arith, value_small (c.args.b % 16)))
