@@ -1,3 +1,5 @@
+#![tactic(auto)]
+
 // Codewords with known check symbols, and what each call answers on lists that it cannot take.
 #[cfg(test)]
 mod tests {

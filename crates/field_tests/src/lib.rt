@@ -1,4 +1,5 @@
 // Examples of the arithmetic of the byte field and of the half-byte field.
+#![tactic(auto)]
 
 #[cfg(test)]
 mod tests {

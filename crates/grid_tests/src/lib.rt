@@ -1,4 +1,5 @@
 // Examples of packed symbols and of the row code and the column code on many rows.
+#![tactic(auto)]
 
 #[cfg(test)]
 mod tests {
@@ -116,14 +117,14 @@ mod tests {
         encode_rows::<ByteField>(&shape(1, 0, 77, 8), &mut unit)?;
         assert_eq!(rt;
             &unit[77..85],
-            [0xFF, 0x0B, 0x51, 0x36, 0xEF, 0xAD, 0xC8, 0x18]
+            [0xFF, 0x0B, 0x51, 0x36, 0xEF, 0xAD, 0xC8, 0x18].as_slice()
         );
         let mut counting = [0u8; 85];
         count_up(&mut counting);
         encode_rows::<ByteField>(&shape(1, 0, 77, 8), &mut counting)?;
         assert_eq!(rt;
             &counting[77..85],
-            [0xE1, 0x4F, 0xD9, 0x0C, 0xD6, 0xB5, 0x77, 0x23]
+            [0xE1, 0x4F, 0xD9, 0x0C, 0xD6, 0xB5, 0x77, 0x23].as_slice()
         );
         Ok(())
     }
@@ -144,6 +145,7 @@ mod tests {
             [
                 0xBD, 0x38, 0x78, 0xA7, 0x42, 0xE7, 0xDF, 0x29, 0x88, 0x2A, 0xAB,
             ]
+            .as_slice()
         );
         Ok(())
     }

@@ -1,3 +1,5 @@
+#![tactic(auto)]
+
 // Examples of the block stores: known values, counts of places, refusals, and stacks that show the same blocks.
 #[cfg(test)]
 mod tests {
