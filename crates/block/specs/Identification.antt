@@ -1,5 +1,5 @@
 -- The three identification bytes of a block: ID0, ID1 and their parity IDP.
-use Rattle.std.specs.Prelude.{◌≡◌, ℕ, ◌+◌, ◌*◌, ◌/◌, ◌%◌, ◌^◌, Bool, true, false, cond, ◌&&◌, ◌||◌, List, [], ◌∷◌, ◌++◌, ◌==◌, nat_lt, slice_index}
+use Rattle.std.specs.Prelude.{◌≡◌, ℕ, ◌+◌, ◌*◌, ◌/◌, ◌%◌, ◌^◌, Bool, true, cond, ◌&&◌, ◌||◌, List, [], ◌∷◌, ◌++◌, ◌==◌, nat_lt, slice_index}
 use Rattle.block.specs.Layouts.{first_block, data_rows}
 use Rattle.block.specs.declared.layout.Layout.{Layout}
 use Rattle.block.specs.declared.layout.Layout.TheVariants.{Audio, Video, Subcode}

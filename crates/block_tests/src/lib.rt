@@ -1,3 +1,5 @@
+#![tactic(auto)]
+
 // Examples of layouts and identifications: known bytes, and which bits are judged.
 #[cfg(test)]
 mod tests {

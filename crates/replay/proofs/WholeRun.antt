@@ -6,10 +6,10 @@ use Rattle.field.specs.Systems.{System}
 use Rattle.store.specs.Store.{Store, at}
 use Rattle.block.specs.Layouts.{row_count, data_rows}
 use Rattle.block.specs.declared.layout.Layout.{Layout}
-use Rattle.sector.specs.Answers.{Answer, taken}
+use Rattle.sector.specs.Answers.{taken}
 use Rattle.sector.specs.Terms.{fits, fitted}
 use Rattle.sector.specs.Bodies.{Closed}
-use Rattle.sector.specs.Opening.{data_in, filler, open_data, SameFrom, Written, Closes}
+use Rattle.sector.specs.Opening.{data_in, filler, open_data, Written, Closes}
 use Rattle.sector.specs.declared.terms.Terms.{Terms}
 use Rattle.replay.specs.Answers.{answer_of}
 use Rattle.replay.specs.Model.{data_after, unwritten}

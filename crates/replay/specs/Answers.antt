@@ -1,5 +1,5 @@
 -- Replies, by numbers.
-use Rattle.std.specs.Prelude.{ℕ, List, [], ◌∷◌}
+use Rattle.std.specs.Prelude.{[], ◌∷◌}
 use Rattle.block.specs.Conditions.{condition_values}
 use Rattle.sector.specs.Answers.{Answer, taken, refusal_of}
 use Rattle.replay.specs.declared.script.Reply.{Reply}

@@ -1,5 +1,5 @@
 -- The reference model of a sector: it is fed the arguments of the calls and nothing else.
-use Rattle.std.specs.Prelude.{◌≡◌, ℕ, ◌-◌, ◌<◌, Bool, true, false, cond, not, ◌&&◌, ◌||◌, List, [], ◌∷◌, ◌++◌, length, take, drop, Some, None, Option, ◌==◌, nat_le, nat_lt, slice_index_or, slice_range}
+use Rattle.std.specs.Prelude.{◌≡◌, ℕ, ◌<◌, Bool, cond, not, ◌&&◌, ◌||◌, List, [], ◌∷◌, ◌++◌, length, take, drop, Some, None, Option, ◌==◌, nat_le, nat_lt, slice_index_or, slice_range}
 use Rattle.field.specs.Systems.{System}
 use Rattle.code.specs.Codewords.{distance}
 use Rattle.grid.specs.Grids.{check_symbols}

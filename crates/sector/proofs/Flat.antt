@@ -1,19 +1,18 @@
 -- The bodies of a sector kept one after another in one byte string.
-use Rattle.std.proofs.Common.{◌≡◌, ℕ, ◌+◌, ◌-◌, ◌*◌, ◌/◌, ◌%◌, ◌<◌, ◌≤◌, ◌≢◌, List, [], ◌∷◌, map, length, get_or, take, drop, Ok, sym, refl, ap, ◌∙◌, subst, ap₂, ⊎_elim, mul-le-mul_right, mod-lt, mul_assoc, add-mul, one-mul, div-add-mod', mul-one, arith, length-drop, length-take-le, get_or-drop, get_or-take, rules}
+use Rattle.std.proofs.Common.{◌≡◌, ℕ, ◌+◌, ◌-◌, ◌*◌, ◌/◌, ◌%◌, ◌<◌, ◌≤◌, ◌≢◌, List, [], map, length, get_or, take, drop, Ok, sym, ap, ◌∙◌, subst, ap₂, ⊎_elim, mul-le-mul_right, mod-lt, mul_assoc, add-mul, one-mul, div-add-mod', mul-one, arith, length-drop, length-take-le, get_or-drop, get_or-take, rules}
 use borrow.Rule.Slice.PartMut.{put_mid}
-use lib.Arith.{digits_lt, digits_div, digits_mod}
+use lib.Arith.{digits_div, digits_mod}
 use lib.ListN.{length-map}
-use Rattle.std.specs.List.{range_with_len}
 use Rattle.std.proofs.lemmas.List.{ext_get_or, get_or-map, drop-take, take-take, places}
 use Rattle.std.proofs.lemmas.List.FromFn.{length-map-range_with_len, get_or-map-range_with_len}
 use Rattle.std.proofs.lemmas.Slice.{take-put_mid_below, drop-put_mid, between-put_mid}
-use Rattle.std.proofs.lemmas.Bool.{cases_order, cases_lt}
+use Rattle.std.proofs.lemmas.Bool.{cases_order}
 use Rattle.field.specs.Systems.{System, Symbol, symbol}
 use Rattle.field.proofs.Sizes.{per_some}
 use Rattle.code.specs.Codewords.{Symbols, Codeword, symbols}
 use Rattle.store.proofs.Bytes.{bytes_drop, bytes_take}
 use Rattle.grid.specs.Packing.{Bytes, part, symbol_at, unpacked}
-use Rattle.grid.specs.Grids.{rows_of, row_bytes, row_symbols, data_symbols, check_symbols, fitting, row, column, RowsEncoded, ColumnsEncoded}
+use Rattle.grid.specs.Grids.{row_symbols, data_symbols, check_symbols, fitting, row, column, RowsEncoded, ColumnsEncoded}
 use Rattle.grid.proofs.Parts.{length_unpacked, get_or_unpacked, symbols_tell, byte_of}
 use Rattle.grid.proofs.Fitting.{right_length, parts_of_row}
 use Rattle.grid.proofs.LineWork.{length_line, get_or_line, same_line}

@@ -1,9 +1,9 @@
 -- What the correction of a body says of it.
-use Rattle.std.proofs.Common.{◌≡◌, ℕ, ◌-◌, ◌*◌, ◌<◌, ◌≤◌, Bool, true, false, cond, ltb, List, [], map, length, get_or, take, drop, set, Some, None, Ok, Err, MatchBool, Option, Result, unwrap_or, sym, refl, ap, ◌∙◌, subst, mul-le-mul, arith}
+use Rattle.std.proofs.Common.{◌≡◌, ℕ, ◌-◌, ◌*◌, ◌<◌, ◌≤◌, true, false, cond, ltb, List, [], length, get_or, drop, set, Some, Ok, Err, MatchBool, Option, Result, unwrap_or, sym, ap, ◌∙◌, subst, mul-le-mul, arith}
 use lib.ListN.{length-map}
 use Rattle.std.proofs.lemmas.List.{map-set, get_or-map}
 use Rattle.std.proofs.lemmas.Bool.{le-ltb}
-use Rattle.field.specs.Systems.{System, Symbol, symbol}
+use Rattle.field.specs.Systems.{System, symbol}
 use Rattle.field.proofs.Sizes.{per_some}
 use Rattle.code.specs.Codewords.{Symbols, symbols}
 use Rattle.code.specs.Acceptance.{Correction}
@@ -17,11 +17,11 @@ use Rattle.grid.specs.Grids.{row_symbols, check_symbols}
 use Rattle.grid.proofs.Parts.{length_unpacked}
 use Rattle.block.specs.Layouts.{shape_of, body_bytes}
 use Rattle.block.specs.Identification.{right_id}
-use Rattle.block.specs.Conditions.{symbols_in, judgement, body_condition, condition, word_of, is_lost}
+use Rattle.block.specs.Conditions.{symbols_in, judgement, body_condition}
 use Rattle.block.specs.declared.layout.Layout.{Layout}
 use Rattle.block.specs.declared.layout.Layout.TheVariants.{Audio, Video, Subcode}
 use Rattle.block.specs.declared.condition.Condition.{Condition}
-use Rattle.block.specs.declared.condition.Condition.TheVariants.{Blank, WrongId, Clean, Corrected, OutOfReach}
+use Rattle.block.specs.declared.condition.Condition.TheVariants.{WrongId}
 use Rattle.block.proofs.Judging.{judged_clean, judged_corrected, judged_out}
 use Rattle.sector.specs.Judgements.{corrected, BodyJudged, RowJudged}
 use Rattle.sector.specs.declared.terms.Terms.{Terms}

@@ -1,9 +1,9 @@
 -- A body made as a grid of one row.
-use Rattle.std.proofs.Common.{◌≡◌, ℕ, ◌+◌, ◌-◌, ◌*◌, ◌<◌, ◌≤◌, List, [], ◌++◌, length, get_or, take, drop, Ok, Err, Result, sym, refl, ap, ◌∙◌, subst, ap₂, zero-mul, mul-one, arith, lit<, length-append, length-drop, length-take-le, MatchResult}
+use Rattle.std.proofs.Common.{◌≡◌, ℕ, ◌+◌, ◌*◌, ◌<◌, ◌≤◌, List, ◌++◌, length, get_or, take, Ok, Result, sym, ap, ◌∙◌, subst, zero-mul, mul-one, arith, lit<, length-append, length-drop, length-take-le, MatchResult}
 use borrow.Rule.Slice.PartMut.{post_of}
 use Rattle.std.proofs.lemmas.List.{ext_get_or, take_at}
 use Rattle.field.specs.Systems.{System}
-use Rattle.code.specs.Codewords.{Symbols, Codeword, symbols}
+use Rattle.code.specs.Codewords.{Codeword, symbols}
 use Rattle.code.specs.declared.error.CodeError.{CodeError}
 use Rattle.store.proofs.Bytes.{bytes_take}
 use Rattle.grid.specs.Packing.{Bytes, symbol_at, unpacked}

@@ -1,5 +1,5 @@
 -- What writing a row and closing a sector leave, from what their steps leave.
-use Rattle.std.proofs.Common.{◌≡◌, ℕ, ◌-◌, ◌*◌, ◌<◌, ◌≤◌, Bool, true, false, cond, eqb, ltb, List, [], length, get_or, take, drop, replicate, Some, Ok, Err, MatchBool, Option, Result, sym, refl, ap, ◌∙◌, subst, ap₂, arith, get_or-take, MatchResult}
+use Rattle.std.proofs.Common.{◌≡◌, ℕ, ◌-◌, ◌*◌, ◌<◌, ◌≤◌, Bool, true, false, cond, eqb, ltb, List, [], length, get_or, take, drop, replicate, Some, Ok, MatchBool, Result, sym, ap, ◌∙◌, subst, arith, get_or-take, MatchResult}
 use Rattle.std.proofs.lemmas.List.{take-take, get_or-replicate}
 use Rattle.std.proofs.lemmas.Bool.{lt-ltb, eq-eqb}
 use Rattle.field.specs.Systems.{System}
@@ -18,7 +18,7 @@ use Rattle.sector.specs.declared.terms.Terms.{Terms}
 use Rattle.sector.specs.Terms.{Fits}
 use Rattle.sector.proofs.Fits.{fitted_is, guard_passed}
 use Rattle.sector.specs.Flat.{body_at, bodies_of}
-use Rattle.sector.proofs.Flat.{get_or_bodies, flat_fitting, long2, encoded}
+use Rattle.sector.proofs.Flat.{get_or_bodies, flat_fitting, encoded}
 
 -- flags that are all set
 pub all_set : (m k r : ℕ) → r < k → k ≤ m → get_or (take (k - 0) (drop 0 (replicate m true))) r false ≡ true

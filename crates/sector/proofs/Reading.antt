@@ -1,5 +1,5 @@
 -- What a read answers, by what was worked out.
-use Rattle.std.proofs.Common.{◌≡◌, ℕ, ◌+◌, ◌-◌, ◌*◌, ◌<◌, ◌≤◌, Bool, true, false, ◌⊎◌, List, [], ◌∷◌, length, get_or, take, drop, Ok, Err, Result, sym, refl, ap, ◌∙◌, subst, inl, inr, arith, length-take-le}
+use Rattle.std.proofs.Common.{◌≡◌, ℕ, ◌+◌, ◌-◌, ◌*◌, ◌<◌, ◌≤◌, Bool, true, false, List, [], ◌∷◌, length, take, drop, Ok, Err, sym, refl, ap, ◌∙◌, subst, inl, inr, arith, length-take-le}
 use Rattle.std.proofs.lemmas.List.{take-take}
 use Rattle.std.proofs.lemmas.Bool.{both_ways}
 use Rattle.field.specs.Systems.{System}
@@ -7,14 +7,14 @@ use Rattle.code.specs.Codewords.{Symbols}
 use Rattle.grid.specs.Packing.{Bytes}
 use Rattle.grid.specs.Grids.{data_symbols}
 use Rattle.store.specs.Store.{Store, at}
-use Rattle.block.specs.Layouts.{shape_of, row_count, data_rows, check_rows, data_bytes, body_bytes}
-use Rattle.block.specs.Conditions.{is_lost, symbols_in, word_of}
+use Rattle.block.specs.Layouts.{shape_of, row_count, data_bytes, body_bytes}
+use Rattle.block.specs.Conditions.{is_lost, symbols_in}
 use Rattle.block.specs.declared.condition.Condition.{Condition}
 use Rattle.block.specs.declared.layout.Layout.{Layout}
 use Rattle.block.specs.declared.layout.Layout.TheVariants.{Audio, Video, Subcode}
-use Rattle.sector.specs.Answers.{Answer, taken, refused, refusal_of}
+use Rattle.sector.specs.Answers.{taken, refused, refusal_of}
 use Rattle.sector.specs.Flat.{body_at}
-use Rattle.sector.specs.Fillings.{lost_at, lost_count, Filling, NoFilling}
+use Rattle.sector.specs.Fillings.{lost_at}
 use Rattle.sector.specs.Judgements.{RowJudged}
 use Rattle.sector.specs.Recovery.{data_of, Recovered}
 use Rattle.sector.specs.Closing.{Holds, Reads}

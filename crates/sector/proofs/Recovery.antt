@@ -1,17 +1,15 @@
 -- Filling the lost rows of bodies that were looked at.
-use Rattle.std.proofs.Common.{◌≡◌, ℕ, ◌+◌, ◌-◌, ◌*◌, ◌<◌, ◌≤◌, Bool, true, false, cond, not, eqb, leb, List, [], ◌∷◌, map, length, get_or, take, drop, is_ok, Ok, Err, Result, sym, refl, ap, ◌∙◌, subst, arith, length-drop, length-take-le, get_or-take}
+use Rattle.std.proofs.Common.{◌≡◌, ℕ, ◌+◌, ◌-◌, ◌*◌, ◌<◌, ◌≤◌, Bool, false, cond, not, eqb, leb, List, [], length, get_or, take, drop, is_ok, Ok, Err, Result, sym, ap, ◌∙◌, subst, arith, length-drop, length-take-le, get_or-take}
 use lib.ListN.{length-map}
-use Rattle.std.specs.List.{range_with_len}
 use Rattle.std.proofs.lemmas.List.{ext_get_or, get_or-map}
 use Rattle.std.proofs.lemmas.List.FromFn.{length-map-range_with_len, get_or-map-range_with_len, fill_by_all}
 use Rattle.std.proofs.lemmas.Bool.{eq-eqb, le-leb}
 use Rattle.field.specs.Systems.{System, Symbol, symbol}
 use Rattle.code.specs.Codewords.{Symbols, Codeword, symbols, count}
-use Rattle.code.specs.Filling.{Completes}
 use Rattle.code.specs.declared.error.CodeError.{CodeError}
 use Rattle.code.specs.declared.error.CodeError.TheVariants.{UnequalLengths, TooLong, TooFewChecks, TooManyChecks, TooManyUnknown, NoCodeword}
 use Rattle.grid.specs.Packing.{symbol_at}
-use Rattle.grid.specs.Grids.{rows_of, row_symbols, data_symbols, check_symbols, column, fitting, RowsFilled}
+use Rattle.grid.specs.Grids.{row_symbols, data_symbols, column, RowsFilled}
 use Rattle.grid.specs.Lines.{Fillable}
 use Rattle.grid.specs.Answers.{and_then, loss_reply, RowsFilling, LossAnswer}
 use Rattle.grid.proofs.Fitting.{parts_of_row}
@@ -22,7 +20,7 @@ use Rattle.block.specs.Conditions.{is_clean, symbols_in, word_of}
 use Rattle.block.specs.declared.layout.Layout.{Layout}
 use Rattle.block.specs.declared.layout.Layout.TheVariants.{Audio, Video, Subcode}
 use Rattle.sector.specs.Bodies.{column_in}
-use Rattle.sector.specs.Flat.{body_at, bodies_of}
+use Rattle.sector.specs.Flat.{body_at}
 use Rattle.sector.specs.Opening.{Contents}
 use Rattle.sector.specs.Fillings.{condition_at, lost_at, lost_count, Filling, NoFilling}
 use Rattle.sector.specs.Recovery.{lost_rows, broken_rows, Surveyed, data_of}

@@ -1,11 +1,9 @@
 -- Putting the rows that are flagged, one after another; and what a repair answers.
-use Rattle.std.proofs.Common.{◌≡◌, ℕ, ◌+◌, ◌*◌, ◌<◌, ◌≤◌, Bool, true, false, cond, not, ◌⊎◌, List, [], ◌∷◌, map, length, get_or, take, Some, None, Ok, Err, Option, Result, sym, refl, ap, ◌∙◌, subst, inl, inr, arith, length-take-le, get_or-take, MatchResult}
-use native.Mathlib.Decide.{ℕ_discrete}
-use Rattle.std.specs.List.{range_with_len}
+use Rattle.std.proofs.Common.{◌≡◌, ℕ, ◌+◌, ◌*◌, ◌<◌, Bool, true, false, cond, not, List, [], ◌∷◌, length, get_or, take, Some, Ok, Err, Option, Result, sym, refl, ap, ◌∙◌, subst, inl, inr, arith, get_or-take, MatchResult}
 use Rattle.std.proofs.lemmas.List.{ext_get_or}
 use Rattle.std.proofs.lemmas.List.FromFn.{get_or-map-range_with_len}
 use Rattle.field.specs.Systems.{System, Symbol, symbol}
-use Rattle.code.specs.Codewords.{Symbols, Codeword, symbols, count}
+use Rattle.code.specs.Codewords.{Symbols, Codeword, count}
 use Rattle.code.specs.declared.error.CodeError.{CodeError}
 use Rattle.grid.specs.Packing.{Bytes, symbol_at}
 use Rattle.grid.specs.Grids.{row_symbols, data_symbols, check_symbols, fitting, row, RowsEncoded}
@@ -13,15 +11,14 @@ use Rattle.grid.specs.declared.shape.Shape.{Shape}
 use Rattle.grid.proofs.Fitting.{parts_of_row}
 use Rattle.grid.proofs.LineWork.{length_line}
 use Rattle.store.specs.Store.{Store, at, with_at}
-use Rattle.block.specs.Layouts.{shape_of, row_count, check_rows, body_bytes}
+use Rattle.block.specs.Layouts.{shape_of, row_count, body_bytes}
 use Rattle.block.specs.Conditions.{is_clean, symbols_in}
-use Rattle.sector.specs.Answers.{Answer, taken, refused, refusal_of}
+use Rattle.sector.specs.Answers.{taken, refused, refusal_of}
 use Rattle.sector.specs.Bodies.{Body, block_of}
 use Rattle.sector.specs.Flat.{body_at}
-use Rattle.sector.specs.Opening.{SameFrom}
-use Rattle.sector.specs.Fillings.{condition_at, lost_count, broken_count, Filling}
-use Rattle.sector.specs.Recovery.{broken_rows, data_of, Recovered, RowsWritten}
-use Rattle.sector.specs.Closing.{Remade, Rewritten, Repairs}
+use Rattle.sector.specs.Fillings.{condition_at}
+use Rattle.sector.specs.Recovery.{data_of, Recovered, RowsWritten}
+use Rattle.sector.specs.Closing.{Rewritten, Repairs}
 use Rattle.sector.specs.declared.refusal.Refusal.{Refusal}
 use Rattle.sector.specs.declared.refusal.Refusal.TheVariants.{Pair, Places, Width, Symbols as TooFewSymbols, Row, Length, Lost, NoContents}
 use Rattle.sector.specs.declared.terms.Terms.{Terms}

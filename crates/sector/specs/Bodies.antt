@@ -1,5 +1,5 @@
 -- The bodies of a sector's rows, and when they are closed: every body and every column of data symbols is a codeword.
-use Rattle.std.specs.Prelude.{◌≡◌, ℕ, ◌<◌, List, [], ◌∷◌, ◌++◌, map, length, get_or, take, slice_index_or}
+use Rattle.std.specs.Prelude.{◌≡◌, ℕ, ◌<◌, List, [], ◌++◌, map, length, get_or, take, slice_index_or}
 use Rattle.field.specs.Systems.{System}
 use Rattle.code.specs.Codewords.{Symbols, Codeword}
 use Rattle.grid.specs.Packing.{Bytes}

@@ -1,14 +1,14 @@
 -- What the calls on a closed sector answer and leave, whatever its store holds.
-use Rattle.std.specs.Prelude.{◌≡◌, ℕ, ◌<◌, ◌≤◌, Bool, true, false, cond, ◌⊎◌, List, [], ◌∷◌, length, take, Some, None, MatchBool, Option, slice_index_or}
+use Rattle.std.specs.Prelude.{◌≡◌, ℕ, ◌<◌, ◌≤◌, true, false, cond, ◌⊎◌, List, [], ◌∷◌, length, take, Some, MatchBool, Option, slice_index_or}
 use Rattle.field.specs.Systems.{System}
 use Rattle.code.specs.Codewords.{Symbols}
 use Rattle.grid.specs.Packing.{Bytes}
 use Rattle.grid.specs.Grids.{data_symbols}
 use Rattle.store.specs.Store.{Store, at, with_at}
 use Rattle.block.specs.Layouts.{shape_of, row_count, check_rows, data_bytes}
-use Rattle.block.specs.Conditions.{condition_values, word_of, is_lost, is_clean, symbols_in}
-use Rattle.sector.specs.Answers.{Answer, taken, refused, guarded, is_taken}
-use Rattle.sector.specs.Terms.{fits, fitted, data_guards, row_guards, block_guards}
+use Rattle.block.specs.Conditions.{condition_values, word_of, is_clean, symbols_in}
+use Rattle.sector.specs.Answers.{Answer, taken, refused, is_taken}
+use Rattle.sector.specs.Terms.{fits, fitted, data_guards, row_guards}
 use Rattle.sector.specs.Bodies.{Body, block_of}
 use Rattle.sector.specs.Opening.{SameFrom}
 use Rattle.sector.specs.Fillings.{condition_at, lost_at, lost_count, broken_count, Filling, NoFilling}

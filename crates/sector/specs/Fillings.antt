@@ -1,5 +1,5 @@
 -- Lost rows, and the contents of them that make every column a codeword.
-use Rattle.std.specs.Prelude.{◌≡◌, ℕ, ◌<◌, Bool, true, false, not, List, [], map, length, take, slice_index_or}
+use Rattle.std.specs.Prelude.{◌≡◌, ℕ, ◌<◌, Bool, false, not, List, [], map, length, take, slice_index_or}
 use Rattle.std.specs.List.{range_with_len}
 use Rattle.field.specs.Systems.{System}
 use Rattle.code.specs.Codewords.{Symbols, Codeword, count}

@@ -1,6 +1,5 @@
 -- What judging a block leaves of it.
-use Rattle.std.specs.Prelude.{◌≡◌, ℕ, false, List, length, drop, Some, Ok, Err, Option, Result}
-use Rattle.std.specs.Option.{unwrap_or}
+use Rattle.std.specs.Prelude.{◌≡◌, ℕ, false, List, Some, Ok, Err, Option, Result}
 use Rattle.field.specs.Systems.{System}
 use Rattle.grid.specs.Grids.{check_symbols}
 use Rattle.block.specs.Layouts.{shape_of}

@@ -4,7 +4,7 @@ use Rattle.field.specs.Systems.{System}
 use Rattle.store.specs.Store.{Store, at, with_at}
 use Rattle.block.specs.Layouts.{row_count, data_bytes}
 use Rattle.block.specs.declared.layout.Layout.{Layout}
-use Rattle.sector.specs.Answers.{Answer, taken, is_taken}
+use Rattle.sector.specs.Answers.{Answer, is_taken}
 use Rattle.sector.specs.Terms.{fits, data_guards}
 use Rattle.sector.specs.Bodies.{Body, Closed, block_of}
 use Rattle.sector.specs.declared.terms.Terms.{Terms}

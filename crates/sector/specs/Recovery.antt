@@ -1,9 +1,8 @@
 -- What is worked out from the contents of a store before anything is written.
-use Rattle.std.specs.Prelude.{◌≡◌, ℕ, ◌<◌, ◌≤◌, Bool, true, false, cond, not, List, [], ◌∷◌, map, length, take, Some, None, Ok, Err, Option, Result, slice_index_or}
+use Rattle.std.specs.Prelude.{◌≡◌, ℕ, ◌<◌, ◌≤◌, Bool, false, cond, not, List, map, take, Some, Ok, Err, Result, slice_index_or}
 use Rattle.std.specs.List.{range_with_len}
 use Rattle.field.specs.Systems.{System}
-use Rattle.code.specs.Codewords.{Symbols, count}
-use Rattle.grid.specs.Packing.{Bytes}
+use Rattle.code.specs.Codewords.{Symbols}
 use Rattle.grid.specs.Grids.{data_symbols}
 use Rattle.store.specs.Store.{Store, at}
 use Rattle.block.specs.Layouts.{shape_of, row_count, check_rows}

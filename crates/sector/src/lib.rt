@@ -1,4 +1,6 @@
 // Sectors of a track over any field and any block store: open while rows are written, closed when they are read.
+#![tactic(auto)]
+
 pub mod closed;
 mod gather;
 mod judge;

@@ -9,7 +9,7 @@ returns-in-Read g c =
     record {
       applied =
           applied_read g.F.NumberSystem.system sector.terms (g.S.BlockStore.store sector.store) c.args.memory.now
-          c.read-part.new.memory c.args.call.now c.in-Read.row c.in-Read.from c.in-Read.to (answer_of c.read-part.result)
-          c.in-Read.is c.read-part.ensures;
+          c.read_part.new.memory c.args.call.now c.in-Read.row c.in-Read.from c.in-Read.to (answer_of c.read_part.result)
+          c.in-Read.is c.read_part.ensures;
       terms = refl;
     }

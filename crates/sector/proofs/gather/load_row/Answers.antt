@@ -5,7 +5,7 @@ use Rattle.sector.specs.Opening.{filler, data_in}
 use Rattle.sector.proofs.Gathering.{filler_part, loaded_part}
 use Rattle.block.specs.Layouts.{block_width}
 use Rattle.sector.proofs.gather.load_row.Goals as goal
-use Rattle.sector.proofs.gather.load_row.Goals.{then-is-marked, else-is-marked}
+use Rattle.sector.proofs.gather.load_row.Goals.{then-is_marked, else-is_marked}
 
 pub returns : goal.returns
 returns g c =
@@ -15,12 +15,12 @@ returns g c =
     let row = c.args.row in
     let k = c.width.result - 0 in
     let ek : k ≡ block_width l = omega arith in
-    c.copy-from-slice.ensures.after
-    ∙ elim c.if-is-marked.branch [
-      | then-is-marked w ↦
-          loaded_part l n k c.requires.1.1 ek st row c.if-is-marked.block c.requires.0 c.requires.1.0 (w.block_is ∙ w.get.ensures.after)
-          ∙ sym (cond-true c.args.is-marked (data_in l (at st row)) (filler l) w.if-is-marked.true)
-      | else-is-marked w ↦
-          ap (λ (x : List ℕ). take (3 + n - 3) (drop 3 x)) w.block_is ∙ filler_part l n k c.requires.1.1 ek
-          ∙ sym (cond-false c.args.is-marked (data_in l (at st row)) (filler l) w.if-is-marked.false)
+    c.copy_from_slice.ensures.after
+    ∙ elim c.if-is_marked.branch [
+      | then-is_marked w ↦
+          loaded_part l n k c.requires.1.1 ek st row c.if-is_marked.block c.requires.0 c.requires.1.0 (w.block-is ∙ w.get.ensures.after)
+          ∙ sym (cond-true c.args.is_marked (data_in l (at st row)) (filler l) w.if-is_marked.true)
+      | else-is_marked w ↦
+          ap (λ (x : List ℕ). take (3 + n - 3) (drop 3 x)) w.block-is ∙ filler_part l n k c.requires.1.1 ek
+          ∙ sym (cond-false c.args.is_marked (data_in l (at st row)) (filler l) w.if-is_marked.false)
     ]

@@ -1,5 +1,5 @@
-use Rattle.std.proofs.Common.{◌≡◌, ℕ, ◌-◌, ◌≤◌, List, length, take, replicate, sym, ap, ◌∙◌, subst, arith}
-use Rattle.block.specs.Layouts.{data_bytes, body_bytes}
+use Rattle.std.proofs.Common.{◌≡◌, ℕ, ◌-◌, length, take, replicate, ap, ◌∙◌, arith}
+use Rattle.block.specs.Layouts.{data_bytes}
 use Rattle.sector.proofs.Recovery.{front_long}
 use Rattle.sector.proofs.Reading.{read_direct, few_bytes}
 use Rattle.sector.proofs.recover.read_row.Goals as goal
@@ -10,6 +10,6 @@ returns g c =
     let few = few_bytes t.layout in
     let k : length c.args.buffer.now - 0 ≡ data_bytes t.layout = omega arith in
     read_direct g.F.NumberSystem.system t (g.S.BlockStore.store c.args.store.now) c.args.row c.args.buffer.now c.examine-condition.new.body
-    c.copy-from-slice.new.self c.examine-condition.result c.is-lost.result c.examine-condition.ensures c.is-lost.ensures c.if-is-lost.false
-    (c.examine-condition.auto.body ∙ front_long (replicate {A = ℕ} 85 0) c.body-bytes-n.result (omega (arith, c.body-bytes-n.ensures)) ∙ c.body-bytes-n.ensures)
-    (c.copy-from-slice.ensures.after ∙ ap (λ n. take n c.examine-condition.new.body) k) c.are-bytes.ensures
+    c.copy_from_slice.new.self c.examine-condition.result c.is_lost.result c.examine-condition.ensures c.is_lost.ensures c.if-is_lost.false
+    (c.examine-condition.auto.body ∙ front_long (replicate {A = ℕ} 85 0) c.body_bytes-n.result (omega (arith, c.body_bytes-n.ensures)) ∙ c.body_bytes-n.ensures)
+    (c.copy_from_slice.ensures.after ∙ ap (λ n. take n c.examine-condition.new.body) k) c.are_bytes.ensures

@@ -1,12 +1,11 @@
-use Rattle.std.proofs.Common.{◌≡◌, ℕ, ◌*◌, ◌<◌, ◌≤◌, Bool, true, false, cond, List, length, replicate, sym, ap, ◌∙◌, subst, arith}
+use Rattle.std.proofs.Common.{◌≡◌, false, cond, length, replicate, ap, ◌∙◌, subst, arith}
 use Rattle.grid.specs.declared.shape.Shape.{Shape}
-use Rattle.grid.specs.Answers.{LossAnswer, loss_reply}
 use Rattle.code.specs.Codewords.{count}
 use Rattle.store.specs.Store.{at}
-use Rattle.block.specs.Layouts.{shape_of, row_count, check_rows, body_bytes}
+use Rattle.block.specs.Layouts.{row_count, check_rows}
 use Rattle.sector.specs.Fillings.{lost_count, Filling, NoFilling}
 use Rattle.sector.specs.Recovery.{data_of}
-use Rattle.sector.proofs.Recovery.{front_long, few_rows, broken_are, count_is, outcome}
+use Rattle.sector.proofs.Recovery.{front_long, few_rows, count_is, outcome}
 use Rattle.sector.proofs.recover.recover.Goals as goal
 
 pub returns-then-count-shape : goal.returns-then-count-shape
@@ -19,13 +18,13 @@ returns-then-count-shape g c =
     count_is s t (at (g.S.BlockStore.store c.args.store.now)) c.survey.new.bodies c.survey.new.lost c.survey.new.broken
     (c.survey.auto.bodies ∙ c.requires.room) flags (c.survey.auto.broken ∙ c.requires.flags) c.requires.fits.few c.requires.fits.short c.survey.ensures
     in
-    let counted : c.count-unknown-count.result ≡ lost_count s t (at (g.S.BlockStore.store c.args.store.now)) = c.count-unknown-count.ensures ∙ many in
+    let counted : c.count_unknown-count.result ≡ lost_count s t (at (g.S.BlockStore.store c.args.store.now)) = c.count_unknown-count.ensures ∙ many in
     let checks : c.shape-shape.result.check_rows ≡ check_rows t.layout = ap (λ (sh : Shape). sh.check_rows) c.shape-shape.ensures in
     let over = c.if-count-shape.true in
     (omega arith, counted)
 
-pub returns-then-not-is-ok : goal.returns-then-not-is-ok
-returns-then-not-is-ok g c =
+pub returns-then-not-is_ok : goal.returns-then-not-is_ok
+returns-then-not-is_ok g c =
     let s = g.F.NumberSystem.system in
     let t = c.args.terms.now in
     let P = at (g.S.BlockStore.store c.args.store.now) in
@@ -33,11 +32,11 @@ returns-then-not-is-ok g c =
     let flags : length c.survey.new.lost ≡ row_count t.layout = c.survey.auto.lost ∙ front_long (replicate 149 false) c.rows-rows.result (omega arith) ∙ c.rows-rows.ensures in
     let end =
     outcome s t P c.survey.new.bodies c.survey.new.lost c.survey.new.broken (c.survey.auto.bodies ∙ c.requires.room) flags
-    (c.survey.auto.broken ∙ c.requires.flags) c.requires.fits.few c.requires.fits.short c.survey.ensures c.shape-shape.result c.fill-rows-filled.new.bytes
-    c.count-unknown-count.result c.fill-rows-filled.result c.is-ok.result c.shape-shape.ensures c.count-unknown-count.ensures c.if-count-shape.false
-    c.fill-rows-filled.ensures c.is-ok.ensures.value
+    (c.survey.auto.broken ∙ c.requires.flags) c.requires.fits.few c.requires.fits.short c.survey.ensures c.shape-shape.result c.fill_rows-filled.new.bytes
+    c.count_unknown-count.result c.fill_rows-filled.result c.is_ok.result c.shape-shape.ensures c.count_unknown-count.ensures c.if-count-shape.false
+    c.fill_rows-filled.ensures c.is_ok.ensures.value
     in
-    (end.0, subst (λ b. cond b (Filling s t P (data_of s t P c.fill-rows-filled.new.bytes)) (NoFilling s t P)) c.if-not-is-ok.true end.2)
+    (end.0, subst (λ b. cond b (Filling s t P (data_of s t P c.fill_rows-filled.new.bytes)) (NoFilling s t P)) c.if-not-is_ok.true end.2)
 
 pub returns : goal.returns
 returns g c =
@@ -48,11 +47,11 @@ returns g c =
     let flags : length c.survey.new.lost ≡ row_count t.layout = c.survey.auto.lost ∙ front_long (replicate 149 false) c.rows-rows.result (omega arith) ∙ c.rows-rows.ensures in
     let end =
     outcome s t P c.survey.new.bodies c.survey.new.lost c.survey.new.broken (c.survey.auto.bodies ∙ c.requires.room) flags
-    (c.survey.auto.broken ∙ c.requires.flags) c.requires.fits.few c.requires.fits.short c.survey.ensures c.shape-shape.result c.fill-rows-filled.new.bytes
-    c.count-unknown-count.result c.fill-rows-filled.result c.is-ok.result c.shape-shape.ensures c.count-unknown-count.ensures c.if-count-shape.false
-    c.fill-rows-filled.ensures c.is-ok.ensures.value
+    (c.survey.auto.broken ∙ c.requires.flags) c.requires.fits.few c.requires.fits.short c.survey.ensures c.shape-shape.result c.fill_rows-filled.new.bytes
+    c.count_unknown-count.result c.fill_rows-filled.result c.is_ok.result c.shape-shape.ensures c.count_unknown-count.ensures c.if-count-shape.false
+    c.fill_rows-filled.ensures c.is_ok.ensures.value
     in (
       end.0,
       end.1,
-      subst (λ b. cond b (Filling s t P (data_of s t P c.fill-rows-filled.new.bytes)) (NoFilling s t P)) c.if-not-is-ok.false end.2,
+      subst (λ b. cond b (Filling s t P (data_of s t P c.fill_rows-filled.new.bytes)) (NoFilling s t P)) c.if-not-is_ok.false end.2,
     )

@@ -1,5 +1,4 @@
-use Rattle.std.proofs.Common.{arith}
 use Rattle.sector.proofs.rows.are_bytes.Goals as goal
 
 pub returns : goal.returns
-returns c i = (c.type-inv.bytes i).fits
+returns c i = (c.type_inv.bytes i).fits

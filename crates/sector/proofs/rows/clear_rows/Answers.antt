@@ -1,4 +1,4 @@
-use Rattle.std.proofs.Common.{◌≡◌, ◌<◌, None, arith}
+use Rattle.std.proofs.Common.{◌≡◌, None, arith}
 use Rattle.block.specs.Layouts.{row_count}
 use Rattle.sector.proofs.Rowwise.{done_none, cleared_more, done_at}
 use Rattle.sector.proofs.rows.clear_rows.Goals as goal

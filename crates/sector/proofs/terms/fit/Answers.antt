@@ -1,16 +1,16 @@
 -- The last test is of a body's symbols, by a division.
-use Rattle.std.proofs.Common.{◌≡◌, ◌<◌, ◌≤◌, [], sym, ◌∙◌, subst, arith}
+use Rattle.std.proofs.Common.{◌≡◌, ◌<◌, ◌≤◌, [], sym, subst, arith}
 use Rattle.field.proofs.Sizes.{per_some}
 use Rattle.block.specs.Layouts.{row_count, block_width}
 use Rattle.sector.specs.Answers.{taken}
 use Rattle.sector.proofs.Fits.{long_bodies, all_fit, fitted_is}
 use Rattle.sector.proofs.terms.fit.Goals as goal
 
-pub nonzero-div-q : goal.nonzero-div-q
-nonzero-div-q g c = subst (λ n. 0 < n) (sym c.symbols-per-byte-m.ensures) (per_some g.F.NumberSystem.system)
+pub nonzero_div-q : goal.nonzero_div-q
+nonzero_div-q g c = subst (λ n. 0 < n) (sym c.symbols_per_byte-m.ensures) (per_some g.F.NumberSystem.system)
 
-pub returns-then-body-bytes-q : goal.returns-then-body-bytes-q
-returns-then-body-bytes-q g c =
+pub returns-then-body_bytes-q : goal.returns-then-body_bytes-q
+returns-then-body_bytes-q g c =
     let s = g.F.NumberSystem.system in
     let t = c.args.terms.now in
     let st = g.S.BlockStore.store c.args.store.now in
@@ -19,9 +19,9 @@ returns-then-body-bytes-q g c =
     let wide : st.width ≡ block_width t.layout = omega arith in
     record {
       reply =
-          long_bodies s t st c.body-bytes.result c.order-q.result c.symbols-per-byte-m.result c.body-bytes.ensures c.order-q.ensures
-          c.symbols-per-byte-m.ensures pair room wide c.if-body-bytes-q.true;
-      sound = c.place-count-places.ensures.sound;
+          long_bodies s t st c.body_bytes.result c.order-q.result c.symbols_per_byte-m.result c.body_bytes.ensures c.order-q.ensures
+          c.symbols_per_byte-m.ensures pair room wide c.if-body_bytes-q.true;
+      sound = c.place_count-places.ensures.sound;
     }
 
 pub returns : goal.returns
@@ -37,8 +37,8 @@ returns g c =
       reply =
           sym
           (fitted_is s t st
-          (all_fit s t st c.body-bytes.result c.order-q.result c.symbols-per-byte-m.result c.body-bytes.ensures c.order-q.ensures
-          c.symbols-per-byte-m.ensures pair room wide few c.if-body-bytes-q.false)
+          (all_fit s t st c.body_bytes.result c.order-q.result c.symbols_per_byte-m.result c.body_bytes.ensures c.order-q.ensures
+          c.symbols_per_byte-m.ensures pair room wide few c.if-body_bytes-q.false)
           (taken []));
-      sound = c.place-count-places.ensures.sound;
+      sound = c.place_count-places.ensures.sound;
     }
