@@ -18,17 +18,9 @@ use grid::columns::encode_columns;
 use grid::rows::encode_rows;
 use store::BlockStore;
 
-/// Owed for an open sector: closing or discarding the sector takes it, and nothing else does.
+/// Owed for an open sector: closing or discarding the sector takes it, and nothing else does. It is no `Drop`, so it cannot be let go.
 pub struct CloseToken {
     owed: (),
-}
-
-impl Drop for CloseToken {
-    fn drop(self)
-        requires { ⊥ }
-    {
-        let CloseToken { owed: _ } = self;
-    }
 }
 
 impl CloseToken {
