@@ -1,6 +1,6 @@
+// Examples of layouts and identifications: known bytes, and which bits are judged.
 #![tactic(auto)]
 
-// Examples of layouts and identifications: known bytes, and which bits are judged.
 #[cfg(test)]
 mod tests {
     use block::identification::{id_parity, is_right, make_id};

@@ -1,6 +1,6 @@
+// Codewords with known check symbols, and what each call answers on lists that it cannot take.
 #![tactic(auto)]
 
-// Codewords with known check symbols, and what each call answers on lists that it cannot take.
 #[cfg(test)]
 mod tests {
     use code::correct::{Verdict, correct};

@@ -1,6 +1,6 @@
+// Examples of the block stores: known values, counts of places, refusals, and stacks that show the same blocks.
 #![tactic(auto)]
 
-// Examples of the block stores: known values, counts of places, refusals, and stacks that show the same blocks.
 #[cfg(test)]
 mod tests {
     use image::Image;
