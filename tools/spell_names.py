@@ -7,7 +7,7 @@ usage: python3 tools/spell_names.py            at the top of the repository: rew
 A name is the repository's own where a file of specs/ or a file of lemmas of proofs/ declares it, or an answer file declares it
 beside its goals. `rowCount` becomes `row_count`, `times-comm` becomes `times_comm`, `getD-symbolsIn` becomes
 `get_or_symbols_in`. Types keep their capitals. Names that come from a library, goals and steps that Rattle makes, and what
-stands in comments and strings stay. Where two names of one file would fall together the script says so and stops.
+stands in comments and strings stay. Where two names of one file fall together the script says so.
 """
 
 import collections

@@ -1,5 +1,5 @@
 // A program that takes one audio sector through a whole run over an image: nine rows are written, the sector is closed, rows are
-// blanked, and what is read back is held to what was written. It says what each call answered.
+// damaged and lost, and what is read back is held to what was written. It says what each call answered.
 #![tactic(auto)]
 
 use block::condition::Condition;
@@ -15,6 +15,9 @@ use std::{fmt, io};
 const ROWS: usize = 9;
 
 const BYTES: usize = 77;
+
+// How many bytes a block has.
+const WIDTH: usize = 88;
 
 // A call, as it is printed.
 #[derive(Drop)]
@@ -70,7 +73,7 @@ fn writes(source: &[[u8; BYTES]; ROWS]) -> [RowWrite<'_>; ROWS + 1] {
 }
 
 // The call that reads row `row` into its part of the memory.
-fn read(row: u8) -> Call<'static> {
+fn read<'a>(row: u8) -> Call<'a> {
     let row = usize::from(row);
     Call::Read {
         row,
@@ -79,16 +82,43 @@ fn read(row: u8) -> Call<'static> {
     }
 }
 
-// The calls: five rows are lost and read, and a sixth is lost too.
-fn calls() -> [Call<'static>; 26] {
+// The block of row 0, whose data are all 0: the identification of audio row 0 under pair 5, and a body of zeros.
+fn block_of_zeros() -> [u8; WIDTH] {
+    let mut block = [0u8; WIDTH];
+    block[0] = 0x05;
+    block[1] = 0x02;
+    block[2] = 0x5F;
+    block
+}
+
+// The calls: row 0 is damaged in three ways, four more rows are lost and all are read and repaired, and then six rows are lost.
+fn calls<'a>(
+    one_changed: &'a [u8],
+    two_changed: &'a [u8],
+    other_parity: &'a [u8],
+) -> [Call<'a>; 31] {
     [
-        Call::Erase { row: 0 },
+        Call::Check { row: 0 },
+        Call::PutBlock {
+            row: 0,
+            block: one_changed,
+        },
+        Call::Check { row: 0 },
+        Call::PutBlock {
+            row: 0,
+            block: two_changed,
+        },
+        Call::Check { row: 0 },
+        Call::PutBlock {
+            row: 0,
+            block: other_parity,
+        },
+        Call::Check { row: 0 },
         Call::Erase { row: 2 },
         Call::Erase { row: 4 },
         Call::Erase { row: 8 },
         Call::Erase { row: 9 },
-        Call::Check { row: 0 },
-        Call::Check { row: 1 },
+        Call::Check { row: 2 },
         read(0),
         read(1),
         read(2),
@@ -137,13 +167,21 @@ fn holds(memory: &[u8], source: &[[u8; BYTES]; ROWS]) -> bool {
 
 fn main(rt: HostRuntime) -> io::Result<()> {
     let mut source = [[0u8; BYTES]; ROWS];
-    for (row, n) in source.iter_mut().zip(1..10) {
-        row.fill(n);
+    for (r, row) in source.iter_mut().enumerate() {
+        for (j, byte) in row.iter_mut().enumerate() {
+            *byte = (r * (31 + j) % 256) as u8;
+        }
     }
     let writes = writes(&source);
     let mut write_replies = [Reply::Repaired(0); ROWS + 1];
-    let calls = calls();
-    let mut replies = [Reply::Repaired(0); 26];
+    let mut one_changed = block_of_zeros();
+    one_changed[43] = 0x01;
+    let mut two_changed = one_changed;
+    two_changed[44] = 0x01;
+    let mut other_parity = block_of_zeros();
+    other_parity[2] = 0x5E;
+    let calls = calls(&one_changed, &two_changed, &other_parity);
+    let mut replies = [Reply::Repaired(0); 31];
     let mut memory = [0u8; ROWS * BYTES];
     let mut tape = [0u8; 14 * 90];
     let store = run(

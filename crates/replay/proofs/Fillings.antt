@@ -16,7 +16,7 @@ use Rattle.sector.specs.Opening.{Contents}
 use Rattle.sector.specs.Fillings.{lost_at, lost_count, Filling}
 use Rattle.sector.specs.declared.terms.Terms.{Terms}
 use Rattle.sector.proofs.Fronts.{length_column_in, get_or_column_in}
-use Rattle.sector.proofs.Words.{words, length_words, get_d_words, length_word}
+use Rattle.sector.proofs.Words.{words, length_words, get_or_words, length_word}
 use Rattle.replay.proofs.Rows.{sent, Good, word_sent}
 
 module _ (s : System) (t : Terms) (few : row_count t.layout < s.order) where
@@ -69,7 +69,7 @@ module _ (s : System) (t : Terms) (few : row_count t.layout < s.order) where
     get_or_own : (r : ℕ) → r < n → get_or own r [] ≡ take w (sent s t bodies r)
     get_or_own r lr =
         let many = length_words s t.layout rows bodies closed in
-        get_or-map (take w) (words s t.layout bodies) r [] [] (omega arith) ∙ ap (take w) (get_d_words s t.layout rows bodies closed r lr)
+        get_or-map (take w) (words s t.layout bodies) r [] [] (omega arith) ∙ ap (take w) (get_or_words s t.layout rows bodies closed r lr)
 
     own_column : (j : ℕ) → j < w → (D : List (Symbols s)) → column_in s j (map (take w) D) ≡ column_in s j D
     own_column j l [] = refl

@@ -24,8 +24,8 @@ module _ (s : System) (l : Layout) where
     pub length_words : length (words bodies) ≡ row_count l
     length_words = length-map bodies (symbols_in s) ∙ closed.many
 
-    pub get_d_words : (r : ℕ) → r < row_count l → get_or (words bodies) r [] ≡ symbols_in s (get_or bodies r [])
-    get_d_words r lr = let many = closed.many in get_or-map (symbols_in s) bodies r [] [] (omega arith)
+    pub get_or_words : (r : ℕ) → r < row_count l → get_or (words bodies) r [] ≡ symbols_in s (get_or bodies r [])
+    get_or_words r lr = let many = closed.many in get_or-map (symbols_in s) bodies r [] [] (omega arith)
 
     pub length_word : (r : ℕ) → r < row_count l → length (symbols_in s (get_or bodies r [])) ≡ row_symbols s (shape_of l)
     length_word r lr = length_symbols_in s (get_or bodies r []) ∙ ap (λ n. n * s.per) (closed.each r lr).long
@@ -34,7 +34,7 @@ module _ (s : System) (l : Layout) where
     pub in_column : (j r : ℕ) → r < row_count l → get_or (column_in s j (words bodies)) r nil ≡ get_or (symbols_in s (get_or bodies r [])) j nil
     in_column j r lr =
         let many = length_words in
-        get_or_column_in s j (words bodies) r (omega arith) ∙ ap (λ (xs : Symbols s). get_or xs j nil) (get_d_words r lr)
+        get_or_column_in s j (words bodies) r (omega arith) ∙ ap (λ (xs : Symbols s). get_or xs j nil) (get_or_words r lr)
 
     -- a data row's data symbols are those of its data bytes
     pub data_symbol : (j r : ℕ) → r < data_rows l → j < data_symbols s (shape_of l)
