@@ -2,14 +2,13 @@
 // damaged and lost, and what is read back is held to what was written. It says what each call answered.
 #![tactic(auto)]
 
-use block::condition::Condition;
 use block::layout::Layout;
 use field::byte::ByteField;
 use image::Image;
 use replay::run::run;
-use replay::script::{Call, Reply, RowWrite};
+use replay::script::{Call, Outcome, RowWrite};
 use sector::refusal::Refusal;
-use std::{fmt, io};
+use std::{array, fmt, io};
 
 // How many data rows there are, and how many bytes each has.
 const ROWS: usize = 9;
@@ -19,57 +18,12 @@ const BYTES: usize = 77;
 // How many bytes a block has.
 const WIDTH: usize = 88;
 
-// A call, as it is printed.
-#[derive(Drop)]
-struct Asked<'a>(&'a Call<'a>);
-
-impl fmt::Display for Asked<'_> {
-    fn fmt<W: fmt::Write>(&self, f: &mut fmt::Formatter<W>) -> fmt::Result {
-        match self.0 {
-            Call::PutBlock { row, .. } => write!(f, "put a block at row {row}"),
-            Call::Erase { row } => write!(f, "erase row {row}"),
-            Call::Check { row } => write!(f, "check row {row}"),
-            Call::Read { row, .. } => write!(f, "read row {row}"),
-            Call::Repair => write!(f, "repair"),
-        }
-    }
-}
-
-// A reply, as it is printed.
-#[derive(Drop)]
-struct Answered(Reply);
-
-impl fmt::Display for Answered {
-    fn fmt<W: fmt::Write>(&self, f: &mut fmt::Formatter<W>) -> fmt::Result {
-        match self.0 {
-            Reply::Done => write!(f, "done"),
-            Reply::Found(Condition::Blank) => write!(f, "blank"),
-            Reply::Found(Condition::WrongId) => write!(f, "wrong ID"),
-            Reply::Found(Condition::Clean) => write!(f, "whole"),
-            Reply::Found(Condition::Corrected(p)) => write!(f, "mended at symbol {p}"),
-            Reply::Found(Condition::OutOfReach) => write!(f, "no word"),
-            Reply::Repaired(n) => write!(f, "rows written: {n}"),
-            Reply::Refused(Refusal::Lost(n)) => write!(f, "refused (9), rows lost: {n}"),
-            Reply::Refused(refusal) => write!(f, "refused ({})", refusal.number()),
-        }
-    }
-}
-
 // A write of each row, and one of a row that is no data row.
 fn writes(source: &[[u8; BYTES]; ROWS]) -> [RowWrite<'_>; ROWS + 1] {
-    let [a, b, c, d, e, f, g, h, i] = source;
-    [
-        RowWrite { row: 0, bytes: a },
-        RowWrite { row: 1, bytes: b },
-        RowWrite { row: 2, bytes: c },
-        RowWrite { row: 3, bytes: d },
-        RowWrite { row: 4, bytes: e },
-        RowWrite { row: 5, bytes: f },
-        RowWrite { row: 6, bytes: g },
-        RowWrite { row: 7, bytes: h },
-        RowWrite { row: 8, bytes: i },
-        RowWrite { row: 9, bytes: a },
-    ]
+    array::from_fn(|row| RowWrite {
+        row,
+        bytes: &source[row % ROWS],
+    })
 }
 
 // The call that reads row `row` into its part of the memory.
@@ -85,13 +39,12 @@ fn read<'a>(row: u8) -> Call<'a> {
 // The block of row 0, whose data are all 0: the identification of audio row 0 under pair 5, and a body of zeros.
 fn block_of_zeros() -> [u8; WIDTH] {
     let mut block = [0u8; WIDTH];
-    block[0] = 0x05;
-    block[1] = 0x02;
-    block[2] = 0x5F;
+    block[..3].copy_from_slice(&[0x05, 0x02, 0x5F]);
     block
 }
 
 // The calls: row 0 is damaged in three ways, four more rows are lost and all are read and repaired, and then six rows are lost.
+// They are written out, to be read line by line beside what is printed.
 fn calls<'a>(
     one_changed: &'a [u8],
     two_changed: &'a [u8],
@@ -141,18 +94,17 @@ fn calls<'a>(
     ]
 }
 
-// Prints each write with its reply.
-fn tell_writes(rt: &HostRuntime, writes: &[RowWrite<'_>], replies: &[Reply]) -> io::Result<()> {
-    for (write, reply) in writes.iter().zip(replies) {
-        println!(rt; "write row {}: {}", write.row, Answered(*reply))?;
-    }
-    Ok(())
-}
-
-// Prints each call with its reply.
-fn tell_calls(rt: &HostRuntime, calls: &[Call<'_>], replies: &[Reply]) -> io::Result<()> {
-    for (call, reply) in calls.iter().zip(replies) {
-        println!(rt; "{}: {}", Asked(call), Answered(*reply))?;
+// Prints each write or call with its reply.
+fn tell<T: fmt::Display>(
+    rt: &HostRuntime,
+    asked: &[T],
+    replies: &[Result<Outcome, Refusal>],
+) -> io::Result<()> {
+    for (entry, reply) in asked.iter().zip(replies) {
+        match reply {
+            Ok(outcome) => println!(rt; "{entry}: {outcome}")?,
+            Err(refusal) => println!(rt; "{entry}: {refusal}")?,
+        }
     }
     Ok(())
 }
@@ -167,13 +119,13 @@ fn holds(memory: &[u8], source: &[[u8; BYTES]; ROWS]) -> bool {
 
 fn main(rt: HostRuntime) -> io::Result<()> {
     let mut source = [[0u8; BYTES]; ROWS];
-    for (r, row) in source.iter_mut().enumerate() {
-        for (j, byte) in row.iter_mut().enumerate() {
-            *byte = (r * (31 + j) % 256) as u8;
+    for (r, row) in (0u8..).zip(source.iter_mut()) {
+        for (j, byte) in (31u8..).zip(row.iter_mut()) {
+            *byte = r.wrapping_mul(j);
         }
     }
     let writes = writes(&source);
-    let mut write_replies = [Reply::Repaired(0); ROWS + 1];
+    let mut write_replies = [Ok(Outcome::Repaired(0)); ROWS + 1];
     let mut one_changed = block_of_zeros();
     one_changed[43] = 0x01;
     let mut two_changed = one_changed;
@@ -181,14 +133,14 @@ fn main(rt: HostRuntime) -> io::Result<()> {
     let mut other_parity = block_of_zeros();
     other_parity[2] = 0x5E;
     let calls = calls(&one_changed, &two_changed, &other_parity);
-    let mut replies = [Reply::Repaired(0); 31];
+    let mut replies = [Ok(Outcome::Repaired(0)); 31];
     let mut memory = [0u8; ROWS * BYTES];
     let mut tape = [0u8; 14 * 90];
     let store = run(
         Layout::Audio,
         5,
         ByteField,
-        Image::new(&mut tape, 88),
+        Image::new(&mut tape, WIDTH),
         &writes,
         &mut write_replies,
         &calls,
@@ -196,8 +148,8 @@ fn main(rt: HostRuntime) -> io::Result<()> {
         &mut memory,
     );
     drop(store);
-    tell_writes(&rt, &writes, &write_replies)?;
-    tell_calls(&rt, &calls, &replies)?;
+    tell(&rt, &writes, &write_replies)?;
+    tell(&rt, &calls, &replies)?;
     if holds(&memory, &source) {
         println!(rt; "what was read is what was written")
     } else {

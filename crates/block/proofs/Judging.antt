@@ -1,9 +1,9 @@
 -- What a list of symbols is judged to be: a codeword, one symbol from a codeword, or neither.
-use Rattle.std.proofs.Common.{◌≡◌, ℕ, zero, suc, ◌-◌, ◌<◌, ◌≤◌, Bool, true, false, not, eqb, ◌≢◌, List, [], ◌∷◌, length, get_or, set, Some, None, Option, sym, refl, ap, ◌∙◌, subst, inl, inr, le_of_suc-le-suc, arith, length-set}
-use native.Mathlib.Nat.{suc_inj}
+use Rattle.std.proofs.Common.{◌≡◌, ℕ, zero, suc, ◌-◌, ◌<◌, ◌≤◌, false, not, eqb, ◌≢◌, List, [], ◌∷◌, length, get_or, set, Some, None, Option, sym, refl, ap, ◌∙◌, subst, inl, inr, le_of_suc-le-suc, arith, length-set}
 use native.Mathlib.Decide.{ℕ_discrete}
 use lib.Seq.{set-get_or}
-use Rattle.std.proofs.lemmas.Bool.{true≢false, false≢true, not_from_true, not_from_false, not-false, eq-eqb, ne_eqb, eqb-true}
+use Rattle.std.proofs.lemmas.Bool.{not_from_false, ne_eqb}
+use Rattle.std.proofs.lemmas.Bool.Decides.{nat_tests}
 use Rattle.field.specs.Systems.{System, Symbol}
 use Rattle.field.proofs.Symbols.{symbol_path}
 use Rattle.code.specs.Codewords.{Symbols, Codeword, differences}
@@ -15,74 +15,26 @@ use Rattle.block.specs.Conditions.{first_true, symbols_in, judgement, Says, Cond
 use Rattle.block.specs.declared.condition.Condition.{Condition}
 use Rattle.block.specs.declared.condition.Condition.TheVariants.{Blank, WrongId, Clean, Corrected, OutOfReach}
 
--- the first true of a list, by what it begins with
-at_once : (b : Bool) (bs : List Bool) → b ≡ true → first_true (b ∷ bs) ≡ Some 0
-at_once true bs e = refl
-at_once false bs e = absurd (false≢true e)
-
-none_after : (b : Bool) (bs : List Bool) → b ≡ false → first_true bs ≡ None → first_true (b ∷ bs) ≡ None
-none_after true bs e h = absurd (true≢false e)
-none_after false bs e h = rw h
-
-some_after : (b : Bool) (bs : List Bool) (p : ℕ) → b ≡ false → first_true bs ≡ Some p → first_true (b ∷ bs) ≡ Some (suc p)
-some_after true bs p e h = absurd (true≢false e)
-some_after false bs p e h = rw h
-
-some_is_none : (p : ℕ) → ◌≡◌ {A = Option ℕ} (Some p) None → ⊥
-some_is_none p e = let z : ◌≡◌ {A = ℕ} 0 1 = cc in omega arith
-
-none_parts : (b : Bool) (bs : List Bool) → first_true (b ∷ bs) ≡ None → (b ≡ false) × (first_true bs ≡ None)
-none_parts true bs h = absurd (some_is_none 0 h)
-none_parts false bs h = (refl, rest (first_true bs) refl)
-  where
-    rest : (o : Option ℕ) → first_true bs ≡ o → first_true bs ≡ None
-    rest None e = e
-    rest (Some p) e = absurd (some_is_none (suc p) (sym (some_after false bs p refl e) ∙ h))
-
 module _ {q : ℕ} where
   same_code : (x : Symbol q) → not (eqb x.code x.code) ≡ false
-  same_code x = not_from_true (eqb x.code x.code) (eq-eqb x.code x.code refl)
+  same_code x = grind (arith, nat_tests)
 
   none_differ : (xs : List (Symbol q)) → first_true (differences xs xs) ≡ None
   none_differ [] = refl
-  none_differ (x ∷ xs) = none_after (not (eqb x.code x.code)) (differences xs xs) (same_code x) (none_differ xs)
+  none_differ (x ∷ xs) = rw (same_code x, none_differ xs) refl
 
   first_differs : (xs : List (Symbol q)) (p : ℕ) (v d : Symbol q) → p < length xs → get_or xs p d ≢ v → first_true (differences xs (set xs p v)) ≡ Some p
-  first_differs [] p v d l n = absurd (let z : ⊥ = omega arith in z)
+  first_differs [] p v d l n = absurd (omega arith)
   first_differs (x ∷ xs) zero v d l n =
-      at_once (not (eqb x.code v.code)) (differences xs xs)
-      (not_from_false (eqb x.code v.code) (ne_eqb x.code v.code (λ e. n (symbol_path x v e))))
-  first_differs (x ∷ xs) (suc p) v d l n =
-      some_after (not (eqb x.code x.code)) (differences xs (set xs p v)) p (same_code x)
-      (first_differs xs p v d (le_of_suc-le-suc l) n)
-
-  none_same : (xs ys : List (Symbol q)) → length ys ≡ length xs → first_true (differences xs ys) ≡ None → ys ≡ xs
-  none_same [] [] e h = refl
-  none_same [] (y ∷ ys) e h = absurd (let z : ⊥ = omega arith in z)
-  none_same (x ∷ xs) [] e h = absurd (let z : ⊥ = omega arith in z)
-  none_same (x ∷ xs) (y ∷ ys) e h =
-      let parts = none_parts (not (eqb x.code y.code)) (differences xs ys) h in
-      let head : x ≡ y = symbol_path x y (eqb-true x.code y.code (not-false (eqb x.code y.code) parts.0)) in
-      let tail = none_same xs ys (suc_inj e) parts.1 in
-      cc
-
-corrected_is_clean : (p : ℕ) → ◌≡◌ {A = Condition} (Corrected p) Clean → ⊥
-corrected_is_clean p e = let z : ◌≡◌ {A = ℕ} 0 1 = cc in omega arith
+      rw (not_from_false (eqb x.code v.code) (ne_eqb x.code v.code (λ e. n (symbol_path x v e)))) refl
+  first_differs (x ∷ xs) (suc p) v d l n = rw (same_code x, first_differs xs p v d (le_of_suc-le-suc l) n) refl
 
 module _ (s : System) (xs : Symbols s) where
-  pub clean_judged : judgement s xs (Some xs) ≡ Clean
+  clean_judged : judgement s xs (Some xs) ≡ Clean
   clean_judged = rw (none_differ xs, judgement)
 
-  pub corrected_judged : (p : ℕ) (v d : Symbol s.order) → p < length xs → get_or xs p d ≢ v → judgement s xs (Some (set xs p v)) ≡ Corrected p
+  corrected_judged : (p : ℕ) (v d : Symbol s.order) → p < length xs → get_or xs p d ≢ v → judgement s xs (Some (set xs p v)) ≡ Corrected p
   corrected_judged p v d l n = rw (first_differs xs p v d l n, judgement)
-
-  -- a list judged whole is the codeword accepted for it
-  pub clean_same : (w : Symbols s) → length w ≡ length xs → judgement s xs (Some w) ≡ Clean → w ≡ xs
-  clean_same w e h = none_same xs w e (go (first_true (differences xs w)) refl)
-    where
-      go : (o : Option ℕ) → first_true (differences xs w) ≡ o → first_true (differences xs w) ≡ None
-      go None f = f
-      go (Some p) f = absurd (corrected_is_clean p (sym (rw (f, judgement)) ∙ h))
 
 module _ (s : System) (c : ℕ) (xs : Symbols s) (enough : 2 ≤ c) (short : length xs ≤ s.order - 1) where
   near_self : Codeword s c xs → Near s 1 c xs xs

@@ -1,8 +1,10 @@
 -- What a row's place is found to hold.
-use Rattle.std.specs.Prelude.{◌≡◌, ℕ, suc, ◌-◌, ◌<◌, ◌≤◌, Bool, true, false, cond, List, [], ◌∷◌, length, drop, Some, None, Option, slice_index, slice_set}
+use Rattle.std.specs.Prelude.{◌≡◌, ℕ, suc, ◌-◌, ◌<◌, ◌≤◌, Bool, true, false, cond, List, [], ◌∷◌, ◌++◌, length, drop, Some, None, Option, slice_index, slice_set, codes, decimal}
 use Rattle.std.specs.Option.{unwrap_or}
 use Rattle.field.specs.Systems.{System, Symbol}
 use Rattle.code.specs.Codewords.{Symbols, Codeword, symbols, differences}
+use Rattle.code.specs.declared.correct.Verdict.{Verdict}
+use Rattle.code.specs.declared.correct.Verdict.TheVariants.{Clean as Intact, Corrected as Changed, OutOfReach as Beyond}
 use Rattle.code.proofs.Trying.{nearest}
 use Rattle.grid.specs.Packing.{unpacked}
 use Rattle.grid.specs.Grids.{check_symbols}
@@ -22,6 +24,20 @@ condition_values OutOfReach = 5 ∷ []
 
 abbrev pub condition_number : Condition → ℕ
 condition_number k = slice_index (condition_values k) 0
+
+-- the condition that a verdict on a body says
+abbrev pub condition_of : Verdict → Condition
+condition_of Intact = Clean
+condition_of (Changed p) = Corrected p
+condition_of Beyond = OutOfReach
+
+-- how each condition is printed
+abbrev pub condition_text : Condition → List ℕ
+condition_text Blank = codes "blank"
+condition_text WrongId = codes "wrong ID"
+condition_text Clean = codes "whole"
+condition_text (Corrected p) = codes "mended at symbol " ++ decimal p
+condition_text OutOfReach = codes "no word"
 
 -- a row is lost when its place gives nothing to rely on
 abbrev pub is_lost : Condition → Bool

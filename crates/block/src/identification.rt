@@ -1,56 +1,42 @@
 // The three identification bytes of a block: ID0, ID1 and their parity IDP.
-ghost use Rattle.std.specs.Prelude.{◌≡◌, ◌<◌, [], ◌∷◌};
-ghost use Rattle.block.specs.Identification.{bit, parity, id_parity, written_id0, written_id1, id_of, judged_right, right_id};
+ghost use Rattle.std.specs.Prelude.{◌≡◌, ◌<◌, All};
+ghost use Rattle.block.specs.Identification.{parity, id_parity, written_id0, written_id1, id_of, judged_right, right_id};
 
 use crate::layout::Layout;
 
-// Bit `i` of `c`.
-fn bit_of(c: u16, i: u16) -> u8
-    requires { i < 16 }
-    ensures { result ≡ bit c i }
+// The parity of some bits of `c`: 1 if an odd number of them are 1.
+fn parity_of(c: u16, bits: &[u16]) -> u8
+    requires { All (λ i. i < 16) bits.now }
+    ensures { result ≡ parity c bits.now }
 {
-    ((c >> i) % 2) as u8
+    u8::from(bits.iter().filter(|&&i| (c >> i) % 2 == 1).count() % 2 == 1)
 }
 
-// The sum modulo 2 of four bits of `c`.
-fn parity_of_4(c: u16, i: u16, j: u16, k: u16, l: u16) -> u8
-    requires { (i < 16) × (j < 16) × (k < 16) × (l < 16) }
-    ensures { result ≡ parity c (i ∷ j ∷ k ∷ l ∷ []) }
-{
-    (bit_of(c, i) + bit_of(c, j) + bit_of(c, k) + bit_of(c, l)) % 2
-}
-
-// The sum modulo 2 of five bits of `c`.
-fn parity_of_5(c: u16, h: u16, i: u16, j: u16, k: u16, l: u16) -> u8
-    requires { (h < 16) × (i < 16) × (j < 16) × (k < 16) × (l < 16) }
-    ensures { result ≡ parity c (h ∷ i ∷ j ∷ k ∷ l ∷ []) }
-{
-    (bit_of(c, h) + parity_of_4(c, i, j, k, l)) % 2
-}
-
-// The sum modulo 2 of six bits of `c`.
-fn parity_of_6(c: u16, g: u16, h: u16, i: u16, j: u16, k: u16, l: u16) -> u8
-    requires { (g < 16) × (h < 16) × (i < 16) × (j < 16) × (k < 16) × (l < 16) }
-    ensures { result ≡ parity c (g ∷ h ∷ i ∷ j ∷ k ∷ l ∷ []) }
-{
-    (bit_of(c, g) + parity_of_5(c, h, i, j, k, l)) % 2
-}
+// For each bit of IDP, from the top, the bits of ID0 and ID1 (15 down to 0) whose parity it is.
+const PARITY_BITS: [&[u16]; 8] = [
+    &[15, 11, 7, 5],
+    &[14, 10, 6, 4],
+    &[15, 13, 9, 5, 3],
+    &[14, 12, 8, 4, 2],
+    &[15, 13, 11, 7, 3, 1],
+    &[14, 12, 10, 6, 2, 0],
+    &[13, 9, 7, 1],
+    &[12, 8, 6, 0],
+];
 
 /// IDP of ID0 and ID1: each of its bits is the parity of some of the sixteen bits of the two.
 pub fn id_parity(id0: u8, id1: u8) -> u8
     ensures { result ≡ id_parity id0 id1 }
 {
-    let c = 256 * (id0 as u16) + id1 as u16;
-    let p7 = parity_of_4(c, 15, 11, 7, 5);
-    let p6 = parity_of_4(c, 14, 10, 6, 4);
-    let p5 = parity_of_5(c, 15, 13, 9, 5, 3);
-    let p4 = parity_of_5(c, 14, 12, 8, 4, 2);
-    let p3 = parity_of_6(c, 15, 13, 11, 7, 3, 1);
-    let p2 = parity_of_6(c, 14, 12, 10, 6, 2, 0);
-    let p1 = parity_of_4(c, 13, 9, 7, 1);
-    let p0 = parity_of_4(c, 12, 8, 6, 0);
-    128 * p7 + 64 * p6 + 32 * p5 + 16 * p4 + 8 * p3 + 4 * p2 + 2 * p1 + p0
+    let c = u16::from_be_bytes([id0, id1]);
+    let mut idp = 0;
+    for bits in PARITY_BITS {
+        idp = 2 * idp + parity_of(c, bits);
+    }
+    idp
 }
+
+// Layout and track pair are given one by one: what holds them together belongs to the sector above.
 
 // ID0 as it is written: the track pair in the low four bits, and 001 on top in check rows; 0 in subcode.
 fn written_id0(layout: Layout, pair: u8, row: usize) -> u8
@@ -72,7 +58,7 @@ fn written_id0(layout: Layout, pair: u8, row: usize) -> u8
 fn written_id1(layout: Layout, row: usize) -> u8
     ensures { result ≡ written_id1 layout row }
 {
-    ((layout.first_block() + row % 256) % 256) as u8
+    ((layout.first_block() + row % 256) % 256) as u8 // below 256, where `try_from` would want an answer that never comes
 }
 
 /// The identification of a row as it is written: ID0, ID1 and IDP.

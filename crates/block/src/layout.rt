@@ -54,21 +54,16 @@ impl Layout {
     pub fn rows(self) -> usize
         ensures { result ≡ row_count self }
     {
-        match self {
-            Layout::Audio => 14,
-            Layout::Video => 149,
-            Layout::Subcode => 12,
-        }
+        let shape = self.shape();
+        shape.data_rows + shape.check_rows
     }
 
     /// How many bytes the body of a block has: data bytes and check bytes.
     pub fn body_bytes(self) -> usize
         ensures { result ≡ body_bytes self }
     {
-        match self {
-            Layout::Audio | Layout::Video => 85,
-            Layout::Subcode => 7,
-        }
+        let shape = self.shape();
+        shape.data_bytes + shape.check_bytes
     }
 
     /// How many bytes a block has: three identification bytes and its body.

@@ -31,11 +31,19 @@ mod tests {
         assert_eq!(rt; id_parity(0x20, 0x00), 0x2A);
         assert_eq!(rt; id_parity(0x00, 0x02), 0x0A);
         assert_eq!(rt; id_parity(0x24, 0xA8), 0x6C);
-        let upper = [0xA8u8, 0x54, 0x2A, 0x15, 0x88, 0x44, 0x22, 0x11];
-        let lower = [0x8Au8, 0x45, 0xA0, 0x50, 0x28, 0x14, 0x0A, 0x05];
-        for i in 0..8 {
-            assert_eq!(rt; id_parity(BITS[i], 0), upper[i]);
-            assert_eq!(rt; id_parity(0, BITS[i]), lower[i]);
+        // Each bit, and IDP of ID0 and of ID1 with that bit alone.
+        for (bit, upper, lower) in [
+            (0x80, 0xA8, 0x8A),
+            (0x40, 0x54, 0x45),
+            (0x20, 0x2A, 0xA0),
+            (0x10, 0x15, 0x50),
+            (0x08, 0x88, 0x28),
+            (0x04, 0x44, 0x14),
+            (0x02, 0x22, 0x0A),
+            (0x01, 0x11, 0x05),
+        ] {
+            assert_eq!(rt; id_parity(bit, 0), upper);
+            assert_eq!(rt; id_parity(0, bit), lower);
         }
     }
 

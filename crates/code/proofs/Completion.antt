@@ -13,7 +13,7 @@ use Rattle.code.specs.Equations.{moment}
 use Rattle.code.specs.Erasures.{picked, blanked, merged, locators, Completed}
 use Rattle.code.specs.Filling.{Completes, Filled, Encoded}
 use Rattle.code.specs.Solving.{Solved}
-use Rattle.code.proofs.Marks.{length_blanked, length_merged, blanked_twice, get_or_merged, merged_has, LastMarked, count_last}
+use Rattle.code.proofs.Marks.{length_blanked, length_merged, blanked_twice, get_or_merged, merged_has, last_marks, length_last, count_last, front_last, back_last}
 use Rattle.code.proofs.Distance.{codewords_apart}
 
 module _ (s : System) where
@@ -175,30 +175,33 @@ module _ (s : System) where
     tested_false r false e h v = not_filled (λ a. v (subst (λ n. Vanish s n c (symbols s new)) (sym e) a))
 
   -- the last c places completed
-  pub encoded : (c : ℕ) (bs : List Bool) (old new out : List ℕ) → length bs ≡ length old → length old < s.order → c ≤ length old → LastMarked c bs → Completed s bs old new
+  pub encoded : (a c : ℕ) (bs : List Bool) (old new out : List ℕ) → bs ≡ last_marks a c → a + c ≡ length old → length old < s.order → Completed s bs old new
       → out ≡ new → Encoded s c old out
-  encoded c bs old new out lb short few marks done eo =
+  encoded a c bs old new out eb ea short done eo =
       subst (λ (w : List ℕ). Encoded s c old w) (sym eo)
       record {
         long = done.long;
         codeword = subst (λ n. Codeword s n (symbols s new)) all done.codeword;
-        same = λ p l. done.same p (marks.front p (omega arith));
+        same = λ p l. done.same p (front p (omega arith));
         only = λ w lw hw keep.
-            only_one bs old new lb short c (omega (arith, all)) done w
+            only_one bs old new (ap length eb ∙ length_last a c ∙ ea) short c (omega (arith, all)) done w
             record {
               long = lw ∙ sym (length-map old (symbol s));
               codeword = hw;
-              keeps = λ p l t. keep p (let lo = length-map old (symbol s) in known p (omega arith) t);
+              keeps = λ p l t. keep p (let lo = length-map old (symbol s) in known p (dec_lt p a) (omega arith) t);
             };
-        small = λ p l m. let ln = done.long in done.small p l (marks.last p (omega arith) (omega arith));
+        small = λ p l m. let ln = done.long in done.small p l (back p (omega arith) (omega arith));
       }
     where
       all : count bs ≡ c
-      all = count_last c bs marks (omega arith)
+      all = ap count eb ∙ count_last a c
 
-      known : (p : ℕ) → p < length bs → get_or bs p false ≡ false → p + c < length old
-      known p l t = go (dec_lt (p + c) (length bs))
-        where
-          go : Dec (p + c < length bs) → p + c < length old
-          go (yes h) = omega arith
-          go (no h) = absurd (let u = marks.last p l (omega arith) in let z : ◌≡◌ {A = ℕ} 0 1 = cc in let y : ⊥ = omega arith in y)
+      front : (p : ℕ) → p < a → get_or bs p false ≡ false
+      front p l = ap (λ (x : List Bool). get_or x p false) eb ∙ front_last a c p l
+
+      back : (p : ℕ) → a ≤ p → p < a + c → get_or bs p false ≡ true
+      back p l m = ap (λ (x : List Bool). get_or x p false) eb ∙ back_last a c p l m
+
+      known : (p : ℕ) → Dec (p < a) → p < length old → get_or bs p false ≡ false → p + c < length old
+      known p (yes h) l t = omega arith
+      known p (no h) l t = absurd (let u = back p (omega arith) (omega arith) in let z : ◌≡◌ {A = ℕ} 0 1 = cc in let y : ⊥ = omega arith in y)

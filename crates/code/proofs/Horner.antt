@@ -1,6 +1,6 @@
 -- A syndrome as it grows by one symbol at the end.
-use Rattle.std.proofs.Common.{◌≡◌, ℕ, ◌+◌, ◌<◌, List, [], ◌∷◌, ◌++◌, length, get_or, take, sym, refl, ap, ◌∙◌, ap₂, add-one, length-append}
-use Rattle.std.proofs.lemmas.List.{take_more}
+use Rattle.std.proofs.Common.{◌≡◌, ℕ, List, [], ◌∷◌, ◌++◌, length, sym, ap, ◌∙◌, ap₂, add-one, length-append}
+use Rattle.std.proofs.lemmas.List.{map-append}
 use Rattle.field.specs.Arithmetic.{Arithmetic, power}
 use Rattle.field.specs.Systems.{System, Symbol, symbol}
 use Rattle.field.proofs.Algebra.{nil_plus, nil_times, distr_right, power_one, power_times}
@@ -9,10 +9,6 @@ use Rattle.code.specs.Codewords.{Symbols, locator, syndrome, symbols, syndrome_o
 module _ (s : System) where
   abbrev F : Arithmetic (Symbol s.order)
   F = s.on
-
-  pub symbols_push : (xs : List ℕ) (x : ℕ) → symbols s (xs ++ (x ∷ [])) ≡ symbols s xs ++ (symbol s x ∷ [])
-  symbols_push [] x = refl
-  symbols_push (y ∷ ys) x = ap (λ l. symbol s y ∷ l) (symbols_push ys x)
 
   syndrome_push : (i : ℕ) (xs : Symbols s) (x : Symbol s.order) → syndrome s i (xs ++ (x ∷ [])) ≡ F.plus (F.times (syndrome s i xs) (locator s i)) x
   syndrome_push i [] x =
@@ -30,10 +26,8 @@ module _ (s : System) where
       ∙ ap (λ z. F.plus z x) (sym (distr_right F (F.times y P) R X))
 
   -- one more symbol of a list
-  pub syndrome_more : (i : ℕ) (xs : List ℕ) (k : ℕ) → k < length xs
-      → (F.plus (F.times (syndrome s i (symbols s (take k xs))) (locator s i)) (symbol s (get_or xs k 0))).code ≡ syndrome_of s i (take (k + 1) xs)
-  syndrome_more i xs k h =
-      ap (λ (x : Symbol s.order). x.code)
-      (sym
-      (ap (λ l. syndrome s i (symbols s l)) (take_more xs k 0 h) ∙ ap (syndrome s i) (symbols_push (take k xs) (get_or xs k 0))
-      ∙ syndrome_push i (symbols s (take k xs)) (symbol s (get_or xs k 0))))
+  pub syndrome_more : (i : ℕ) (xs : List ℕ) (x : ℕ)
+      → (F.plus (F.times (syndrome s i (symbols s xs)) (locator s i)) (symbol s x)).code ≡ syndrome_of s i (xs ++ x ∷ [])
+  syndrome_more i xs x =
+      ap (λ (y : Symbol s.order). y.code)
+      (sym (ap (syndrome s i) (map-append (symbol s) xs (x ∷ [])) ∙ syndrome_push i (symbols s xs) (symbol s x)))

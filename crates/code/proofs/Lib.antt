@@ -5,7 +5,6 @@ pub mod Reach
 pub mod Horner
 pub mod Vanishing
 pub mod Places
-pub mod SolverLoops
 pub mod SolverLevel
 pub mod Marks
 pub mod Locators

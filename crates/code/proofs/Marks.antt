@@ -1,19 +1,16 @@
 -- Lists with marked places: the loops that go through them, one place at a time.
-use Rattle.std.proofs.Common.{◌≡◌, ℕ, zero, suc, ◌+◌, ◌<◌, ◌≤◌, Bool, true, false, cond, leb, List, [], ◌∷◌, ◌++◌, length, get_or, take, drop, set, sym, refl, ap, ◌∙◌, subst, ap₂, append_assoc, le_of_suc-le-suc, add-one, arith, drop-cons}
-use native.Mathlib.Decide.{dec_lt}
+use Rattle.std.proofs.Common.{◌≡◌, ℕ, zero, suc, ◌+◌, ◌-◌, ◌<◌, ◌≤◌, Bool, true, false, cond, List, [], ◌∷◌, ◌++◌, length, get_or, take, drop, set, sym, refl, ap, ◌∙◌, subst, ap₂, append_assoc, le_of_suc-le-suc, add-one, arith, replicate, length-append, length-take, length-drop, drop-cons}
 use native.Mathlib.Nat.{suc_inj}
-use Rattle.std.proofs.lemmas.List.{ext_get_or, append-nil, drop-set-lt, take_more, take_more_set, take_all, drop_all}
-use Rattle.std.proofs.lemmas.Bool.{le-leb, lt-leb}
+use Rattle.std.proofs.lemmas.List.{ext_get_or, append-nil, get_or-replicate, length-replicate, drop-set-lt, set-get_or, take-append-drop, take_more, take_more_set, take_all, drop_all}
+use Rattle.std.specs.List.{filter}
+use borrow.Rule.Slice.PartMut.{put_mid}
 use Rattle.code.specs.Codewords.{count}
 use Rattle.code.specs.Erasures.{blanked, merged}
 
-pub count_push : (bs : List Bool) (b : Bool) → count (bs ++ b ∷ []) ≡ cond b (count bs + 1) (count bs)
-count_push [] true = omega arith
-count_push [] false = refl
-count_push (true ∷ bs) true = let h = count_push bs true in omega arith
-count_push (true ∷ bs) false = let h = count_push bs false in omega arith
-count_push (false ∷ bs) true = count_push bs true
-count_push (false ∷ bs) false = count_push bs false
+pub length_marks : (bs : List Bool) → length (filter (λ b. b) bs) ≡ count bs
+length_marks [] = refl
+length_marks (true ∷ bs) = ap suc (length_marks bs)
+length_marks (false ∷ bs) = length_marks bs
 
 pub count_at_most : (bs : List Bool) → count bs ≤ length bs
 count_at_most [] = omega arith
@@ -80,43 +77,55 @@ module _ {A : Type 0} where
   merged_has P e (false ∷ bs) (x ∷ xs) vs zero n l h t = absurd (let z : ◌≡◌ {A = ℕ} 0 1 = cc in let y : ⊥ = omega arith in y)
   merged_has P e (false ∷ bs) (x ∷ xs) vs (suc p) n l h t = merged_has P e bs xs vs p n (le_of_suc-le-suc l) h t
 
-  -- what was written before a marked place, and what is left of the values from there on
-  pub merging_marked : (bs : List Bool) (now was vs : List A) (p k : ℕ) (d : A) → p < length now → p < length bs → k < length vs → get_or bs p false ≡ true
-      → take p now ++ merged (drop p bs) (drop p now) (drop k vs) ≡ was
-      → take (p + 1) (set now p (get_or vs k d)) ++ merged (drop (p + 1) bs) (drop (p + 1) (set now p (get_or vs k d))) (drop (k + 1) vs) ≡ was
-  merging_marked bs now was vs p k d l lb lk t h =
-      let v = get_or vs k d in
-      let rest = drop (p + 1) now in
-      let here : drop p now ≡ get_or now p d ∷ rest = drop-cons now p d l ∙ ap (λ n. get_or now p d ∷ drop n now) (sym (add-one p)) in
-      let value : drop k vs ≡ v ∷ drop (k + 1) vs = drop-cons vs k d lk ∙ ap (λ n. v ∷ drop n vs) (sym (add-one k)) in
-      let step : merged (drop p bs) (drop p now) (drop k vs) ≡ v ∷ merged (drop (p + 1) bs) rest (drop (k + 1) vs) =
-      ap (λ (x : List Bool). merged x (drop p now) (drop k vs)) (left_here bs p true lb t)
-      ∙ ap₂ (λ (x y : List A). merged (true ∷ drop (p + 1) bs) x y) here value
-      in
-      ap₂ (λ (x y : List A). x ++ merged (drop (p + 1) bs) y (drop (k + 1) vs)) (take_more_set now p v l) (drop-set-lt (p + 1) now p v (omega arith))
-      ∙ append_assoc (take p now) (v ∷ []) (merged (drop (p + 1) bs) rest (drop (k + 1) vs))
-      ∙ ap (λ (x : List A). take p now ++ x) (sym step) ∙ h
+  merged_none : (bs : List Bool) (xs : List A) → merged bs xs [] ≡ xs
+  merged_none [] xs = refl
+  merged_none (true ∷ bs) [] = refl
+  merged_none (true ∷ bs) (x ∷ xs) = refl
+  merged_none (false ∷ bs) [] = refl
+  merged_none (false ∷ bs) (x ∷ xs) = ap (λ (l : List A). x ∷ l) (merged_none bs xs)
 
-  pub merging_known : (bs : List Bool) (now was vs : List A) (p k : ℕ) (d : A) → p < length now → p < length bs → get_or bs p false ≡ false
-      → take p now ++ merged (drop p bs) (drop p now) (drop k vs) ≡ was
-      → take (p + 1) now ++ merged (drop (p + 1) bs) (drop (p + 1) now) (drop k vs) ≡ was
-  merging_known bs now was vs p k d l lb t h =
-      let rest = drop (p + 1) now in
-      let here : drop p now ≡ get_or now p d ∷ rest = drop-cons now p d l ∙ ap (λ n. get_or now p d ∷ drop n now) (sym (add-one p)) in
-      let step : merged (drop p bs) (drop p now) (drop k vs) ≡ get_or now p d ∷ merged (drop (p + 1) bs) rest (drop k vs) =
-      ap (λ (x : List Bool). merged x (drop p now) (drop k vs)) (left_here bs p false lb t)
-      ∙ ap (λ (x : List A). merged (false ∷ drop (p + 1) bs) x (drop k vs)) here
-      in
-      ap (λ (x : List A). x ++ merged (drop (p + 1) bs) rest (drop k vs)) (take_more now p d l)
-      ∙ append_assoc (take p now) (get_or now p d ∷ []) (merged (drop (p + 1) bs) rest (drop k vs))
-      ∙ ap (λ (x : List A). take p now ++ x) (sym step) ∙ h
+  -- p places are written, and vs are the values for the places from there on
+  abbrev pub Merging : List Bool → List A → ℕ → List A → List A → Type 0
+  Merging bs was p now vs = take p now ++ merged (drop p bs) (drop p now) vs ≡ was
 
-  pub merging_end : (bs : List Bool) (now was vs : List A) (p k : ℕ) → length bs ≤ p → length now ≤ p
-      → take p now ++ merged (drop p bs) (drop p now) (drop k vs) ≡ was → now ≡ was
-  merging_end bs now was vs p k lb l h =
+  module _ (d : A) (bs : List Bool) (was now vs : List A) (p : ℕ) (l : p < length now) (lb : p < length bs) (h : Merging bs was p now vs) where
+    here : drop p now ≡ get_or now p d ∷ drop (p + 1) now
+    here = drop-cons now p d l ∙ ap (λ n. get_or now p d ∷ drop n now) (sym (add-one p))
+
+    pub merging_marked : (o rest : List A) (v : A) → get_or bs p false ≡ true → o ≡ set now p v → vs ≡ v ∷ rest → Merging bs was (p + 1) o rest
+    merging_marked o rest v t eo e =
+        let step : merged (drop p bs) (drop p now) vs ≡ v ∷ merged (drop (p + 1) bs) (drop (p + 1) now) rest =
+        ap (λ (x : List Bool). merged x (drop p now) vs) (left_here bs p true lb t) ∙ ap₂ (λ (x y : List A). merged (true ∷ drop (p + 1) bs) x y) here e
+        in
+        ap (λ (x : List A). take (p + 1) x ++ merged (drop (p + 1) bs) (drop (p + 1) x) rest) eo
+        ∙ ap₂ (λ (x y : List A). x ++ merged (drop (p + 1) bs) y rest) (take_more_set now p v l) (drop-set-lt (p + 1) now p v (omega arith))
+        ∙ append_assoc (take p now) (v ∷ []) (merged (drop (p + 1) bs) (drop (p + 1) now) rest)
+        ∙ ap (λ (x : List A). take p now ++ x) (sym step) ∙ h
+
+    pub merging_known : (o rest : List A) → get_or bs p false ≡ false → o ≡ set now p (get_or now p d) → rest ≡ vs → Merging bs was (p + 1) o rest
+    merging_known o rest t eo e =
+        let more = merged (drop (p + 1) bs) (drop (p + 1) now) vs in
+        let step : merged (drop p bs) (drop p now) vs ≡ get_or now p d ∷ more =
+        ap (λ (x : List Bool). merged x (drop p now) vs) (left_here bs p false lb t) ∙ ap (λ (x : List A). merged (false ∷ drop (p + 1) bs) x vs) here
+        in
+        ap₂ (λ (x y : List A). take (p + 1) x ++ merged (drop (p + 1) bs) (drop (p + 1) x) y) (eo ∙ set-get_or now p d) e
+        ∙ ap (λ (x : List A). x ++ more) (take_more now p d l) ∙ append_assoc (take p now) (get_or now p d ∷ []) more
+        ∙ ap (λ (x : List A). take p now ++ x) (sym step) ∙ h
+
+    -- no values are left
+    pub merging_none : (o rest : List A) → o ≡ set now p (get_or now p d) → vs ≡ [] → rest ≡ vs → Merging bs was (p + 1) o rest
+    merging_none o rest eo none e =
+        let whole : (q : ℕ) → take q now ++ merged (drop q bs) (drop q now) [] ≡ now = λ q.
+        ap (λ (x : List A). take q now ++ x) (merged_none (drop q bs) (drop q now)) ∙ take-append-drop q now
+        in
+        ap₂ (λ (x y : List A). take (p + 1) x ++ merged (drop (p + 1) bs) (drop (p + 1) x) y) (eo ∙ set-get_or now p d) (e ∙ none)
+        ∙ whole (p + 1) ∙ sym (whole p) ∙ subst (λ (x : List A). Merging bs was p now x) none h
+
+  pub merging_end : (bs : List Bool) (was now vs : List A) (p : ℕ) → length bs ≤ p → length now ≤ p → Merging bs was p now vs → now ≡ was
+  merging_end bs was now vs p lb l h =
       sym (append-nil now)
       ∙ ap₂ (λ (x y : List A). x ++ y) (sym (take_all p now l))
-      (sym (ap₂ (λ (x : List Bool) (y : List A). merged x y (drop k vs)) (drop_all p bs lb) (drop_all p now l)))
+      (sym (ap₂ (λ (x : List Bool) (y : List A). merged x y vs) (drop_all p bs lb) (drop_all p now l)))
       ∙ h
 
   pub blanked_is : (d : A) (bs : List Bool) (xs ys : List A) → length ys ≡ length xs
@@ -124,82 +133,44 @@ module _ {A : Type 0} where
   blanked_is d bs xs ys l h =
       ext_get_or d ys (blanked d bs xs) (l ∙ sym (length_blanked d bs xs)) (λ p lp. h p lp ∙ sym (get_or_blanked d d bs xs p (omega arith)))
 
--- how many marks are left
-pub left_marked : (bs : List Bool) (p k r : ℕ) → p < length bs → get_or bs p false ≡ true → k + count (drop p bs) ≡ r → (k < r) × (k + 1 + count (drop (p + 1) bs) ≡ r)
-left_marked bs p k r l t h =
-    let e = ap count (left_here bs p true l t) in
-    (omega arith, omega arith)
+-- a places that are not marked, and then c that are
+abbrev pub last_marks : ℕ → ℕ → List Bool
+last_marks a c = replicate a false ++ replicate c true
 
-pub left_known : (bs : List Bool) (p k r : ℕ) → p < length bs → get_or bs p false ≡ false → k + count (drop p bs) ≡ r → k + count (drop (p + 1) bs) ≡ r
-left_known bs p k r l t h = let e = ap count (left_here bs p false l t) in omega arith
+pub length_last : (a c : ℕ) → length (last_marks a c) ≡ a + c
+length_last a c = simp (length-append, length-replicate)
 
-pub count_more : (bs : List Bool) (i : ℕ) → i < length bs → count (take (i + 1) bs) ≡ cond (get_or bs i false) (count (take i bs) + 1) (count (take i bs))
-count_more bs i l = ap count (take_more bs i false l) ∙ count_push (take i bs) (get_or bs i false)
+pub count_last : (a c : ℕ) → count (last_marks a c) ≡ c
+count_last zero zero = refl
+count_last zero (suc c) = ap suc (count_last zero c)
+count_last (suc a) c = count_last a c
 
--- The turns of a loop that writes values at the marked places.
-abbrev pub Merging : {A : Type 0} → List Bool → List A → List A → ℕ → ℕ → List A → Type 0
-Merging bs was vs p k now = (k + count (drop p bs) ≡ length vs) × (take p now ++ merged (drop p bs) (drop p now) (drop k vs) ≡ was)
+pub front_last : (a c p : ℕ) → p < a → get_or (last_marks a c) p false ≡ false
+front_last zero c p l = absurd (let z : ⊥ = omega arith in z)
+front_last (suc a) c zero l = refl
+front_last (suc a) c (suc p) l = front_last a c p (le_of_suc-le-suc l)
 
-module _ {A : Type 0} (d : A) (bs : List Bool) (now was vs : List A) (p k : ℕ) (l : p < length now) (lb : p < length bs) (h : Merging bs was vs p k now) where
-  pub merging_then : (o : List A) (m : ℕ) → get_or bs p false ≡ true → o ≡ set now p (get_or vs k d) → m ≡ k + 1 → Merging bs was vs (p + 1) m o
-  merging_then o m t eo em =
-      let left = left_marked bs p k (length vs) lb t h.0 in
-      subst (λ (x : List A). Merging bs was vs (p + 1) m x) (sym eo)
-      (subst (λ n. Merging bs was vs (p + 1) n (set now p (get_or vs k d))) (sym em)
-      (left.1, merging_marked bs now was vs p k d l lb left.0 t h.1))
+pub back_last : (a c p : ℕ) → a ≤ p → p < a + c → get_or (last_marks a c) p false ≡ true
+back_last zero c p h l = get_or-replicate c p true false (omega arith)
+back_last (suc a) c zero h l = absurd (let z : ⊥ = omega arith in z)
+back_last (suc a) c (suc p) h l = back_last a c p (le_of_suc-le-suc h) (omega arith)
 
-  pub merging_else : (o : List A) (m : ℕ) → get_or bs p false ≡ false → o ≡ now → m ≡ k → Merging bs was vs (p + 1) m o
-  merging_else o m t eo em =
-      subst (λ (x : List A). Merging bs was vs (p + 1) m x) (sym eo)
-      (subst (λ n. Merging bs was vs (p + 1) n now) (sym em)
-      (left_known bs p k (length vs) lb t h.0, merging_known bs now was vs p k d l lb t h.1))
+unmarked : (a : ℕ) (bs : List Bool) → a ≤ length bs → count bs ≡ 0 → take a bs ≡ replicate a false
+unmarked zero bs l e = refl
+unmarked (suc a) [] l e = absurd (let z : ⊥ = omega arith in z)
+unmarked (suc a) (true ∷ bs) l e = absurd (let z : ⊥ = omega arith in z)
+unmarked (suc a) (false ∷ bs) l e = ap (λ (x : List Bool). false ∷ x) (unmarked a bs (le_of_suc-le-suc l) e)
 
--- The turns of a loop that counts the marks.
-pub counting_then : (bs : List Bool) (i n m : ℕ) → i < length bs → (n ≡ count (take i bs)) × (n ≤ i) → get_or bs i false ≡ true → m ≡ n + 1
-    → (m ≡ count (take (i + 1) bs)) × (m ≤ i + 1)
-counting_then bs i n m l h t e =
-    (e ∙ ap (λ x. x + 1) h.0 ∙ sym (count_more bs i l ∙ ap (λ b. cond b (count (take i bs) + 1) (count (take i bs))) t), omega (arith, h.1))
+pub count_front : (n : ℕ) (bs : List Bool) → count bs ≡ 0 → count (take n bs) ≡ 0
+count_front zero bs e = refl
+count_front (suc n) [] e = refl
+count_front (suc n) (true ∷ bs) e = absurd (let z : ⊥ = omega arith in z)
+count_front (suc n) (false ∷ bs) e = count_front n bs e
 
-pub counting_else : (bs : List Bool) (i n m : ℕ) → i < length bs → (n ≡ count (take i bs)) × (n ≤ i) → get_or bs i false ≡ false → m ≡ n
-    → (m ≡ count (take (i + 1) bs)) × (m ≤ i + 1)
-counting_else bs i n m l h t e =
-    (e ∙ h.0 ∙ sym (count_more bs i l ∙ ap (λ b. cond b (count (take i bs) + 1) (count (take i bs))) t), omega (arith, h.1))
-
--- The last c places are marked, and no other.
-pub record LastMarked (c : ℕ) (bs : List Bool) : Type 0 where
-  pub last : (p : ℕ) → p < length bs → length bs ≤ p + c → get_or bs p false ≡ true
-  pub front : (p : ℕ) → p + c < length bs → get_or bs p false ≡ false
-
-count_last_step : (c n k : ℕ) (b : Bool) (bs : List Bool) → (suc n ≤ c → b ≡ true) → (c < suc n → b ≡ false) → count bs ≡ k → (n ≤ c → k ≡ n) → (c ≤ n → k ≡ c)
-    → (suc n ≤ c → count (b ∷ bs) ≡ suc n) × (c ≤ suc n → count (b ∷ bs) ≡ c)
-count_last_step c n k true bs h f e m l =
-    let long : suc n ≤ c = go (dec_lt c (suc n)) in
-    let all = m (omega arith) in
-    ((λ g. omega arith), (λ g. omega arith))
-  where
-    go : Dec (c < suc n) → suc n ≤ c
-    go (yes lt) = absurd (let t = f lt in let z : ◌≡◌ {A = ℕ} 0 1 = cc in let y : ⊥ = omega arith in y)
-    go (no ge) = omega arith
-count_last_step c n k false bs h f e m l =
-    let short : c < suc n = go (dec_lt c (suc n)) in
-    let some = l (omega arith) in
-    ((λ g. absurd (let y : ⊥ = omega arith in y)), (λ g. omega arith))
-  where
-    go : Dec (c < suc n) → c < suc n
-    go (yes lt) = lt
-    go (no ge) = absurd (let t = h (omega arith) in let z : ◌≡◌ {A = ℕ} 0 1 = cc in let y : ⊥ = omega arith in y)
-
-count_last_both : (c : ℕ) (bs : List Bool) → LastMarked c bs → (length bs ≤ c → count bs ≡ length bs) × (c ≤ length bs → count bs ≡ c)
-count_last_both c [] h = ((λ _. refl), (λ l. omega arith))
-count_last_both c (b ∷ bs) h =
-    let rest = count_last_both c bs (record { last = λ p l m. h.last (suc p) (omega arith) (omega arith); front = λ p l. h.front (suc p) (omega arith) }) in
-    count_last_step c (length bs) (count bs) b bs (λ l. h.last 0 (omega arith) (omega arith)) (λ l. h.front 0 (omega arith)) refl rest.0 rest.1
-
-pub count_last : (c : ℕ) (bs : List Bool) → LastMarked c bs → c ≤ length bs → count bs ≡ c
-count_last c bs h l = (count_last_both c bs h).1 l
-
-pub last_marked : (c : ℕ) (bs : List Bool) → ((p : ℕ) → p < length bs → get_or bs p false ≡ leb (length bs) (p + c)) → LastMarked c bs
-last_marked c bs h = record {
-  last = λ p l m. h p l ∙ le-leb (length bs) (p + c) m;
-  front = λ p l. h p (omega arith) ∙ lt-leb (length bs) (p + c) l;
-}
+-- the last places of a list with no marks, filled with marks
+pub last_filled : (a c : ℕ) (bs ms : List Bool) → a + c ≡ length bs → count bs ≡ 0 → ms ≡ replicate (length (take (length bs - a) (drop a bs))) true
+    → put_mid a (length bs - a) bs ms ≡ last_marks a c
+last_filled a c bs ms e none em =
+    let long : length (take (length bs - a) (drop a bs)) ≡ c = simp (length-take, length-drop) (omega arith) in
+    ap₂ (λ (x y : List Bool). x ++ y) (unmarked a bs (omega arith) none)
+    (ap₂ (λ (x y : List Bool). x ++ y) (em ∙ ap (λ n. replicate n true) long) (drop_all (length bs - a) (drop a bs) (simp length-drop (omega arith))) ∙ append-nil (replicate c true))

@@ -14,7 +14,3 @@ each_set d P xs k v l below here j lj = go (ℕ_discrete j k)
 -- the first n places of a list, as a part of it
 pub length_front : {A : Type 0} (xs : List A) (n : ℕ) → n ≤ length xs → length (take (n - 0) (drop 0 xs)) ≡ n
 length_front xs n h = simp (length-take, length-drop) (omega arith)
-
-pub front_within : {A : Type 0} (xs : List A) (n c : ℕ) → n ≤ length xs → n ≤ 255 → c ≤ n
-    → (c ≤ length (take (n - 0) (drop 0 xs))) × (length (take (n - 0) (drop 0 xs)) < 256)
-front_within xs n c h short few = let e = length_front xs n h in (omega arith, omega arith)

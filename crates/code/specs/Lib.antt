@@ -4,3 +4,4 @@ pub mod Acceptance
 pub mod Erasures
 pub mod Filling
 pub mod Solving
+pub mod Sizes

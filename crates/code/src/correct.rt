@@ -5,6 +5,7 @@ ghost use Rattle.code.specs.Acceptance.{Geometric, Position, Located, Judged, Co
 
 use super::LONGEST;
 use super::error::CodeError;
+use super::sizes::test_sizes;
 use super::syndrome::write_syndromes;
 use field::{Field, NumberSystem, sub};
 
@@ -22,24 +23,16 @@ pub enum Verdict {
 fn all_zero(list: &[u8]) -> bool
     ensures { Tells result ((i : ℕ) → i < length list.now → slice_index list.now i ≡ 0) }
 {
-    for i in 0..list.len() {
-        if list[i] != 0 {
-            return false;
-        }
-    }
-    true
+    list.iter().all(|&symbol| symbol == 0)
 }
 
 // Whether each syndrome is the one before times `x`. All of them are tested.
 fn is_geometric<F: NumberSystem>(syndromes: &[u8], x: u8) -> bool
     ensures { Tells result (Geometric F.NumberSystem.system x syndromes.now) }
 {
-    for i in 1..syndromes.len() {
-        if syndromes[i] != F::mul(syndromes[i - 1], x) {
-            return false;
-        }
-    }
-    true
+    syndromes
+        .windows(2)
+        .all(|pair| pair[1] == F::mul(pair[0], x))
 }
 
 // The place, of `n`, whose locator is `x`.
@@ -47,11 +40,11 @@ fn position_of<F: NumberSystem>(n: usize, x: u8) -> Option<usize>
     ensures { Position F.NumberSystem.system n x result }
 {
     let mut l = 1;
-    for k in 0..n {
+    for p in (0..n).rev() {
         if l == x {
-            return Some(n - 1 - k);
+            return Some(p);
         }
-        l = F::mul(l, F::root());
+        l = F::mul(l, F::ALPHA);
     }
     None
 }
@@ -92,16 +85,7 @@ fn correct_in<F: Field>(symbols: &mut [u8], syndromes: &mut [u8]) -> Verdict
 pub fn correct<F: Field>(symbols: &mut [u8], checks: usize) -> Result<Verdict, CodeError>
     ensures { Correction F.NumberSystem.system checks symbols.old symbols.new result }
 {
-    let n = symbols.len();
-    if n >= F::order() as usize {
-        return Err(CodeError::TooLong);
-    }
-    if checks < 2 {
-        return Err(CodeError::TooFewChecks);
-    }
-    if checks > n {
-        return Err(CodeError::TooManyChecks);
-    }
+    test_sizes::<F>(symbols.len(), 2, checks)?;
     let mut room = [0u8; LONGEST];
     Ok(correct_in::<F>(symbols, &mut room[0..checks]))
 }

@@ -1,4 +1,4 @@
-// Why a call on a list of symbols is refused.
+/// Why a call on a list of symbols is refused.
 #[derive(Clone, Copy, PartialEq, Eq, Debug)]
 pub enum CodeError {
     /// two slices that go together, or a grid and its shape, have different lengths

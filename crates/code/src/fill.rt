@@ -1,5 +1,5 @@
 // Erasures: unknown symbols are filled with the only ones that make a codeword. Encoding fills the last symbols.
-ghost use Rattle.std.specs.Prelude.{◌≡◌, ℕ, ◌+◌, ◌-◌, ◌<◌, ◌≤◌, false, length, nat_le, slice_index, slice_index_or};
+ghost use Rattle.std.specs.Prelude.{◌≡◌, ℕ, ◌<◌, ◌≤◌, length, slice_index};
 ghost use Rattle.code.specs.Codewords.{symbols as symbols_of, count, syndrome_of};
 ghost use Rattle.code.specs.Erasures.{picked, blanked, merged, locators as locators_of, Completed};
 ghost use Rattle.code.specs.Filling.{Filling, Encoding};
@@ -7,44 +7,40 @@ ghost use Rattle.field.specs.Systems.{opposite_of};
 
 use super::LONGEST;
 use super::error::CodeError;
+use super::sizes::test_sizes;
 use super::solve::solve;
-use super::syndrome::{locator, syndrome, syndromes_vanish};
+use super::syndrome::{locator, syndromes_vanish, write_syndromes};
 use field::{Field, NumberSystem};
 
 /// How many places are unknown.
 pub fn count_unknown(unknown: &[bool]) -> usize
     ensures { result ≡ count unknown.now }
 {
-    let mut n = 0;
-    for u in unknown {
-        if *u {
-            n += 1;
+    unknown.iter().filter(|&&u| u).count()
+}
+
+// Writes 0 for the unknown symbols.
+fn blank(unknown: &[bool], symbols: &mut [u8])
+    requires { length symbols.old ≡ length unknown.now }
+    ensures { symbols.new ≡ blanked 0 unknown.now symbols.old }
+{
+    // by index, since a proof keeps no write that is made through a `zip` of `iter_mut`
+    for (p, symbol) in symbols.iter_mut().enumerate() {
+        if unknown[p] {
+            *symbol = 0;
         }
     }
-    n
 }
 
-// Copies the known symbols, and writes 0 for the unknown.
-fn copy_known(symbols: &[u8], unknown: &[bool], out: &mut [u8])
-    requires { (length unknown.now ≡ length symbols.now) × (length out.old ≡ length symbols.now) }
-    ensures { out.new ≡ blanked 0 unknown.now symbols.now }
-{
-    for p in 0..out.len() {
-        out[p] = if unknown[p] { 0 } else { symbols[p] };
-    }
-}
-
-// Writes the locators of the unknown places.
+// Writes the locators of the unknown places. Behind each of them are the places that are left once it is found.
 fn write_locators<F: NumberSystem>(unknown: &[bool], out: &mut [u8])
     requires { length out.old ≡ count unknown.now }
     ensures { symbols_of F.NumberSystem.system out.new ≡ picked unknown.now (locators_of F.NumberSystem.system (length unknown.now)) }
 {
-    let n = unknown.len();
-    let mut k = 0;
-    for p in 0..n {
-        if unknown[p] {
-            out[k] = locator::<F>(n - 1 - p);
-            k += 1;
+    let mut left = unknown.iter();
+    for place in out.iter_mut() {
+        if left.any(|&u| u) {
+            *place = locator::<F>(left.len());
         }
     }
 }
@@ -53,27 +49,31 @@ fn write_locators<F: NumberSystem>(unknown: &[bool], out: &mut [u8])
 fn write_wanted<F: NumberSystem>(known: &[u8], out: &mut [u8])
     ensures { (i : ℕ) → i < length out.new → slice_index out.new i ≡ opposite_of F.NumberSystem.system (syndrome_of F.NumberSystem.system i known.now) }
 {
-    for i in 0..out.len() {
-        out[i] = F::neg(syndrome::<F>(known, i));
+    write_syndromes::<F>(known, out);
+    for s in out.iter_mut() {
+        *s = F::neg(*s);
     }
 }
 
 // Writes the values, in their order, at the unknown places.
 fn put_values(unknown: &[bool], values: &[u8], out: &mut [u8])
-    requires { (length out.old ≡ length unknown.now) × (length values.now ≡ count unknown.now) }
+    requires { length out.old ≡ length unknown.now }
     ensures { out.new ≡ merged unknown.now out.old values.now }
 {
-    let mut k = 0;
-    for p in 0..out.len() {
-        if unknown[p] {
-            out[p] = values[k];
-            k += 1;
+    let mut left = values.iter();
+    // by index, since a proof keeps no write that is made through a `zip` of `iter_mut`
+    for (p, symbol) in out.iter_mut().enumerate() {
+        if unknown[p]
+            && let Some(&value) = left.next()
+        {
+            *symbol = value;
         }
     }
 }
 
 // Copies the symbols, with the unknown ones such that as many syndromes are 0; the last two slices are room for one number for
 // each unknown symbol.
+// That the lengths agree is asked as it stands: a struct of these slices would be made for one call.
 fn complete_in<F: Field>(
     symbols: &[u8],
     unknown: &[bool],
@@ -86,7 +86,8 @@ fn complete_in<F: Field>(
     requires short { length symbols.now < F.NumberSystem.system.order }
     ensures { Completed F.NumberSystem.system unknown.now symbols.now out.new }
 {
-    copy_known(symbols, unknown, out);
+    out.copy_from_slice(symbols);
+    blank(unknown, out);
     write_locators::<F>(unknown, locators);
     write_wanted::<F>(out, values);
     solve::<F>(locators, values);
@@ -94,8 +95,10 @@ fn complete_in<F: Field>(
 }
 
 // Copies the symbols, with the unknown ones such that as many syndromes are 0.
+#[tactic(auto, using(crate::proofs::Marks::count_at_most))]
 fn complete<F: Field>(symbols: &[u8], unknown: &[bool], out: &mut [u8])
     requires fits { (length unknown.now ≡ length symbols.now) × (length out.old ≡ length symbols.now) }
+    requires room { length symbols.now ≤ LONGEST }
     requires short { length symbols.now < F.NumberSystem.system.order }
     ensures { Completed F.NumberSystem.system unknown.now symbols.now out.new }
 {
@@ -111,6 +114,8 @@ fn complete<F: Field>(symbols: &[u8], unknown: &[bool], out: &mut [u8])
     );
 }
 
+// Flags and no `Option`s for the unknown symbols: a refused call leaves them as they were.
+
 /// Fills the unknown symbols with the only ones that make a codeword of so many checks.
 pub fn fill<F: Field>(symbols: &mut [u8], unknown: &[bool], checks: usize) -> Result<(), CodeError>
     ensures { Filling F.NumberSystem.system checks unknown.now symbols.old symbols.new result }
@@ -119,12 +124,7 @@ pub fn fill<F: Field>(symbols: &mut [u8], unknown: &[bool], checks: usize) -> Re
     if unknown.len() != n {
         return Err(CodeError::UnequalLengths);
     }
-    if n >= F::order() as usize {
-        return Err(CodeError::TooLong);
-    }
-    if checks > n {
-        return Err(CodeError::TooManyChecks);
-    }
+    test_sizes::<F>(n, 0, checks)?;
     let r = count_unknown(unknown);
     if r > checks {
         return Err(CodeError::TooManyUnknown);
@@ -139,32 +139,17 @@ pub fn fill<F: Field>(symbols: &mut [u8], unknown: &[bool], checks: usize) -> Re
     Ok(())
 }
 
-// Marks the last `count` places, and no other.
-fn mark_last(places: &mut [bool], count: usize)
-    requires { (count ≤ length places.old) × (length places.old < 256) }
-    ensures { (p : ℕ) → p < length places.new → slice_index_or places.new p false ≡ nat_le (length places.new) (p + count) }
-{
-    for p in 0..places.len() {
-        places[p] = p + count >= places.len();
-    }
-}
-
 /// Writes the last symbols, `checks` of them, so that the list is a codeword of so many checks.
 pub fn encode<F: Field>(symbols: &mut [u8], checks: usize) -> Result<(), CodeError>
     ensures { Encoding F.NumberSystem.system checks symbols.old symbols.new result }
 {
     let n = symbols.len();
-    if n >= F::order() as usize {
-        return Err(CodeError::TooLong);
-    }
-    if checks > n {
-        return Err(CodeError::TooManyChecks);
-    }
+    test_sizes::<F>(n, 0, checks)?;
     let mut marks = [false; LONGEST];
     let mut room = [0u8; LONGEST];
     let unknown = &mut marks[0..n];
     let word = &mut room[0..n];
-    mark_last(unknown, checks);
+    unknown[n - checks..].fill(true);
     complete::<F>(symbols, unknown, word);
     symbols.copy_from_slice(word);
     Ok(())

@@ -7,6 +7,7 @@ pub mod correct;
 pub mod error;
 pub mod fill;
 pub mod laws;
+mod sizes;
 mod solve;
 pub mod syndrome;
 

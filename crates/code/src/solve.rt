@@ -6,14 +6,15 @@ ghost use Rattle.code.specs.Solving.{total as total_of, Eliminated, Divided, Sol
 
 use field::{Field, NumberSystem, sub};
 
-// Takes the part of the locator `x` out of all sums but the first.
-fn eliminate<F: NumberSystem>(x: u8, sums: &mut [u8])
-    ensures { Eliminated F.NumberSystem.system x sums.old sums.new }
+// Takes the part of the locator `x` out of the sums after the first.
+fn eliminate<F: NumberSystem>(x: u8, first: u8, others: &mut [u8])
+    ensures { Eliminated F.NumberSystem.system x first others.old others.new }
 {
-    let mut k = sums.len();
-    while k > 1 {
-        k -= 1;
-        sums[k] = sub::<F>(sums[k], F::mul(x, sums[k - 1]));
+    let mut before = first;
+    for sum in others.iter_mut() {
+        let less = sub::<F>(*sum, F::mul(x, before));
+        before = *sum;
+        *sum = less;
     }
 }
 
@@ -22,8 +23,9 @@ fn divide<F: Field>(x: u8, locators: &[u8], values: &mut [u8])
     requires { length values.old ≡ length locators.now }
     ensures { Divided F.NumberSystem.system x locators.now values.old values.new }
 {
-    for k in 0..values.len() {
-        values[k] = F::mul(values[k], F::inv(sub::<F>(locators[k], x)));
+    // by index, since a proof keeps no write that is made through a `zip` of `iter_mut`
+    for (k, value) in values.iter_mut().enumerate() {
+        *value = F::mul(*value, F::inv(sub::<F>(locators[k], x)));
     }
 }
 
@@ -31,11 +33,7 @@ fn divide<F: Field>(x: u8, locators: &[u8], values: &mut [u8])
 fn total<F: NumberSystem>(values: &[u8]) -> u8
     ensures { result ≡ (total_of F.NumberSystem.system (symbols F.NumberSystem.system values.now)).code }
 {
-    let mut r = 0;
-    for v in values {
-        r = F::add(r, *v);
-    }
-    r
+    values.iter().fold(0, |r, &v| F::add(r, v))
 }
 
 // Puts in the place of the wanted sums the values, one for each locator, that have them.
@@ -43,14 +41,12 @@ pub(crate) fn solve<F: Field>(locators: &[u8], sums: &mut [u8])
     requires { (length sums.old ≡ length locators.now) × (Distinct (symbols F.NumberSystem.system locators.now)) }
     ensures { Solved F.NumberSystem.system locators.now sums.old sums.new }
 {
-    if locators.len() == 0 {
-        return;
+    if let Some((&x, rest)) = locators.split_first()
+        && let Some((first, others)) = sums.split_first_mut()
+    {
+        eliminate::<F>(x, *first, others);
+        solve::<F>(rest, others);
+        divide::<F>(x, rest, others);
+        *first = sub::<F>(*first, total::<F>(others));
     }
-    let x = locators[0];
-    eliminate::<F>(x, sums);
-    let rest = &locators[1..];
-    solve::<F>(rest, &mut sums[1..]);
-    divide::<F>(x, rest, &mut sums[1..]);
-    let others = total::<F>(&sums[1..]);
-    sums[0] = sub::<F>(sums[0], others);
 }

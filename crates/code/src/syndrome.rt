@@ -8,7 +8,7 @@ use field::{NumberSystem, power};
 pub fn locator<F: NumberSystem>(behind: usize) -> u8
     ensures { result ≡ (locator_of F.NumberSystem.system behind).code }
 {
-    power::<F>(F::root(), behind)
+    power::<F>(F::ALPHA, behind)
 }
 
 /// Syndrome `i` of the symbols.
@@ -16,23 +16,14 @@ pub fn syndrome<F: NumberSystem>(symbols: &[u8], i: usize) -> u8
     ensures { result ≡ syndrome_of F.NumberSystem.system i symbols.now }
 {
     let x = locator::<F>(i);
-    let mut r = 0;
-    for s in symbols {
-        r = F::add(F::mul(r, x), *s);
-    }
-    r
+    symbols.iter().fold(0, |r, &s| F::add(F::mul(r, x), s))
 }
 
 // Whether the syndromes from one number up to another are all 0.
 pub(crate) fn syndromes_vanish<F: NumberSystem>(symbols: &[u8], from: usize, to: usize) -> bool
     ensures { Tells result (Vanish F.NumberSystem.system from to (symbols_of F.NumberSystem.system symbols.now)) }
 {
-    for i in from..to {
-        if syndrome::<F>(symbols, i) != 0 {
-            return false;
-        }
-    }
-    true
+    (from..to).all(|i| syndrome::<F>(symbols, i) == 0)
 }
 
 /// Whether the symbols are a codeword of so many checks.
@@ -46,7 +37,7 @@ pub fn is_codeword<F: NumberSystem>(symbols: &[u8], checks: usize) -> bool
 pub fn write_syndromes<F: NumberSystem>(symbols: &[u8], out: &mut [u8])
     ensures { (i : ℕ) → i < length out.new → slice_index out.new i ≡ syndrome_of F.NumberSystem.system i symbols.now }
 {
-    for i in 0..out.len() {
-        out[i] = syndrome::<F>(symbols, i);
+    for (i, s) in out.iter_mut().enumerate() {
+        *s = syndrome::<F>(symbols, i);
     }
 }

@@ -1,5 +1,5 @@
 // The byte field: 256 symbols, the polynomials of eight bits modulo X^8 + X^4 + X^3 + X^2 + 1, multiplied by logarithms.
-ghost use Rattle.std.specs.Prelude.{◌≡◌, ◌<◌, bit_xor};
+ghost use Rattle.std.specs.Prelude.{◌≡◌, ◌<◌, bit_xor, refl};
 ghost use Rattle.polynomial.specs.Polynomials.{times_power, byte_polynomial, byte_product};
 ghost use Rattle.field.specs.Systems.{sum_of, product_of, opposite_of, partner_of};
 ghost use Rattle.field.specs.PolynomialFields.{byte_system};
@@ -108,17 +108,11 @@ impl NumberSystem for ByteField {
 
     ghost system = { byte_system };
 
-    fn order() -> u16 {
-        Self::Q
-    }
+    ghost Q = { byte_system.order };
 
-    fn symbols_per_byte() -> usize {
-        Self::PER_BYTE
-    }
+    ghost PER_BYTE = { byte_system.per };
 
-    fn root() -> u8 {
-        Self::ALPHA
-    }
+    ghost ALPHA = { byte_system.root.code };
 
     fn add(a: u8, b: u8) -> u8
         ensures sum { result ≡ sum_of byte_system a b }
@@ -134,6 +128,7 @@ impl NumberSystem for ByteField {
         if a == 0 || b == 0 {
             0
         } else {
+            // `as` and no `u16::from`, which is a call of its own to the proof
             power_of(((logarithm_of(a) as u16 + logarithm_of(b) as u16) % 255) as u8)
         }
     }
@@ -144,6 +139,12 @@ impl NumberSystem for ByteField {
     {
         a // each symbol is its own opposite
     }
+
+    ghost order_is = { refl };
+
+    ghost per_is = { refl };
+
+    ghost root_is = { refl };
 }
 
 // Inverses go by logarithms too.

@@ -1,6 +1,6 @@
 // The half-byte field: 16 symbols, the polynomials of four bits modulo X^4 + X + 1, multiplied by shifting. A code of 16 or more
 // counts as its remainder modulo 16.
-ghost use Rattle.std.specs.Prelude.{◌≡◌, ◌%◌, ◌<◌, bit_xor};
+ghost use Rattle.std.specs.Prelude.{◌≡◌, ◌%◌, ◌<◌, bit_xor, refl};
 ghost use Rattle.polynomial.specs.Polynomials.{times_x, half_byte_polynomial, half_byte_product};
 ghost use Rattle.field.specs.Systems.{sum_of, product_of, opposite_of, partner_of};
 ghost use Rattle.field.specs.PolynomialFields.{half_byte_system};
@@ -31,17 +31,11 @@ impl NumberSystem for HalfByteField {
 
     ghost system = { half_byte_system };
 
-    fn order() -> u16 {
-        Self::Q
-    }
+    ghost Q = { half_byte_system.order };
 
-    fn symbols_per_byte() -> usize {
-        Self::PER_BYTE
-    }
+    ghost PER_BYTE = { half_byte_system.per };
 
-    fn root() -> u8 {
-        Self::ALPHA
-    }
+    ghost ALPHA = { half_byte_system.root.code };
 
     fn add(a: u8, b: u8) -> u8
         ensures sum { result ≡ sum_of half_byte_system a b }
@@ -73,6 +67,12 @@ impl NumberSystem for HalfByteField {
     {
         a % 16 // each symbol is its own opposite
     }
+
+    ghost order_is = { refl };
+
+    ghost per_is = { refl };
+
+    ghost root_is = { refl };
 }
 
 // The inverses: that of 8 i + j at row i and place j, and 0 for 0.

@@ -3,7 +3,7 @@
 // byte field and the half-byte field are given here.
 #![tactic(auto)]
 
-ghost use Rattle.std.specs.Prelude.{◌≡◌};
+ghost use Rattle.std.specs.Prelude.{◌≡◌, ℕ};
 ghost use Rattle.field.specs.Systems.{System, sum_of, product_of, opposite_of, partner_of, difference_of, power_of};
 
 pub mod byte;
@@ -25,17 +25,37 @@ pub trait NumberSystem {
     /// the operations and their laws
     ghost system: { System };
 
-    /// The constant `Q`, as generic code may use it.
+    // The constants, as contracts name them.
+
+    /// q
+    ghost Q: { ℕ };
+
+    /// m
+    ghost PER_BYTE: { ℕ };
+
+    /// the code of α
+    ghost ALPHA: { ℕ };
+
+    /// The number of symbols.
     fn order() -> u16
-        ensures { result ≡ system.order };
+        ensures { result ≡ system.order }
+    {
+        Self::Q
+    }
 
-    /// The constant `PER_BYTE`, as generic code may use it.
+    /// The number of symbols in a byte.
     fn symbols_per_byte() -> usize
-        ensures { result ≡ system.per };
+        ensures { result ≡ system.per }
+    {
+        Self::PER_BYTE
+    }
 
-    /// The constant `ALPHA`, as generic code may use it.
+    /// The symbol whose powers are all the symbols but 0.
     fn root() -> u8
-        ensures { result ≡ system.root.code };
+        ensures { result ≡ system.root.code }
+    {
+        Self::ALPHA
+    }
 
     fn add(a: u8, b: u8) -> u8
         ensures { result ≡ sum_of system a b };
@@ -45,6 +65,14 @@ pub trait NumberSystem {
 
     fn neg(a: u8) -> u8
         ensures { result ≡ opposite_of system a };
+
+    // The constants are those of the system.
+
+    ghost order_is: { Q ≡ system.order };
+
+    ghost per_is: { PER_BYTE ≡ system.per };
+
+    ghost root_is: { ALPHA ≡ system.root.code };
 }
 
 /// A field: a number system that can also divide.

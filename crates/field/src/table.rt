@@ -5,9 +5,9 @@ ghost use Rattle.field.specs.Tables.{Entry};
 pub fn entry(table: &[[u8; 8]], i: u8) -> u8
     ensures { Entry table.now i result }
 {
-    if i as usize / 8 < table.len() {
-        table[i as usize / 8][i as usize % 8]
-    } else {
-        0
+    // `as` and no `usize::from`, which is a call of its own to the proof
+    match table.get(i as usize / 8) {
+        Some(row) => row[i as usize % 8],
+        None => 0,
     }
 }

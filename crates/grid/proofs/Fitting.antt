@@ -1,5 +1,5 @@
 -- Which grids fit a field.
-use Rattle.std.proofs.Common.{◌≡◌, ℕ, ◌+◌, ◌-◌, ◌*◌, ◌/◌, ◌<◌, ◌≤◌, Bool, true, false, cond, eqb, ltb, Ok, Err, Result, sym, refl, ap, ◌∙◌, subst, mul-le-mul_right, add-mul, le-div_iff_mul-le, le-mul_of_pos_right, arith}
+use Rattle.std.proofs.Common.{◌≡◌, ℕ, ◌+◌, ◌-◌, ◌*◌, ◌/◌, ◌<◌, ◌≤◌, Bool, true, false, cond, eqb, ltb, Ok, Err, Result, sym, refl, ap, ◌∙◌, subst, mul-le-mul_right, add-mul, le-div_iff_mul-le, arith}
 use native.Mathlib.Decide.{dec_lt}
 use Rattle.std.proofs.lemmas.Bool.{lt-ltb, le-ltb, eq-eqb, ne_eqb}
 use Rattle.field.specs.Systems.{System}
@@ -40,9 +40,6 @@ module _ (s : System) (sh : Shape) (bytes : ℕ) where
 
 -- The tests of a row's width w in bytes, with q for the order and m for the symbols in a byte.
 module _ (s : System) (w : ℕ) where
-  pub wide : s.order ≤ w → s.order ≤ w * s.per
-  wide h = let l : w ≤ w * s.per = le-mul_of_pos_right w (per_some s) in omega arith
-
   module _ (q m : ℕ) (eq : q ≡ s.order) (em : m ≡ s.per) where
     pub over : (q - 1) / m < w → s.order ≤ w * s.per
     over h =

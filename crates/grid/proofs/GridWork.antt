@@ -1,56 +1,30 @@
 -- Grids whose rows or columns are worked on one after another.
-use Rattle.std.proofs.Common.{◌≡◌, ℕ, ◌+◌, ◌*◌, ◌/◌, ◌%◌, ◌<◌, ◌≤◌, List, length, sym, refl, ap, ◌∙◌, subst, mul-le-mul_right, mul_assoc, add-mul, mul-le-mul, one-mul, mul-one, arith}
+use Rattle.std.proofs.Common.{◌≡◌, ℕ, ◌+◌, ◌*◌, ◌/◌, ◌%◌, ◌<◌, ◌≤◌, List, length, sym, ap, ◌∙◌, subst, mul-one, arith}
 use native.Mathlib.Decide.{ℕ_discrete}
-use lib.Arith.{digits_lt, digits_div, digits_mod}
+use lib.Arith.{digits_div, digits_mod}
 use Rattle.field.specs.Systems.{System}
-use Rattle.field.proofs.Sizes.{order_small}
-use Rattle.grid.specs.Grids.{rows_of, row_bytes, row_symbols, row, column}
-use Rattle.grid.specs.Lines.{Within, Redone}
+use Rattle.grid.specs.Packing.{symbol_at}
+use Rattle.grid.specs.Grids.{rows_of, row_symbols, line, row, column}
+use Rattle.grid.specs.Line.{Redone}
+use Rattle.grid.specs.declared.lines.Line.{Line}
 use Rattle.grid.specs.declared.shape.Shape.{Shape}
 use Rattle.grid.proofs.LineWork.{same_line}
+
+module _ (s : System) where
+  -- n symbols went from one list to another, and all symbols off them are as they were
+  pub record Changed (start step n : ℕ) (P : List ℕ → List ℕ → Type 0) (old new : List ℕ) : Type 0 where
+    pub done : P (line s old start step n) (line s new start step n)
+    pub offline : (p : ℕ) → ((i : ℕ) → i < n → p ≡ i * step + start → ⊥) → symbol_at s new p ≡ symbol_at s old p
+
+  pub changed : (l : Line) (P Q : List ℕ → List ℕ → Type 0) (a b n : ℕ) (old new : List ℕ) → l.start ≡ a → l.step ≡ b → l.len ≡ n → ((x y : List ℕ) → P x y → Q x y)
+      → Redone s l P old new → Changed a b n Q old new
+  changed l P Q a b n old new ea eb en f w =
+      subst (λ i. Changed i b n Q old new) ea (subst (λ i. Changed l.start i n Q old new) eb (subst (λ i. Changed l.start l.step i Q old new) en
+      (record { done = f _ _ w.done; offline = w.offline })))
 
 module _ (s : System) (sh : Shape) where
   abbrev n : ℕ
   n = row_symbols s sh
-
-  -- a grid of so many bytes has so many symbols
-  pub grid_symbols : (bytes : ℕ) → bytes ≡ rows_of sh * row_bytes sh → bytes * s.per ≡ rows_of sh * row_symbols s sh
-  grid_symbols bytes e = ap (λ b. b * s.per) e ∙ mul_assoc (rows_of sh) (row_bytes sh) s.per
-
-  module _ (few : rows_of sh < s.order) (short : row_symbols s sh < s.order) (bytes : ℕ) (long : bytes ≡ rows_of sh * row_bytes sh) where
-    row_start : (r : ℕ) → r < rows_of sh → r * row_symbols s sh < 65536
-    row_start r l =
-        let o = order_small s in
-        let m : r * row_symbols s sh ≤ 255 * 255 = mul-le-mul {n₁ = r} {m₁ = row_symbols s sh} {n₂ = 255} {m₂ = 255} (omega arith) (omega arith) in
-        omega arith
-
-    pub row_within : (r : ℕ) → r < rows_of sh → Within s (r * row_symbols s sh) 1 (row_symbols s sh) bytes
-    row_within r l =
-        let o = order_small s in
-        record {
-          some = omega arith;
-          near = row_start r l;
-          close = omega arith;
-          short = omega arith;
-          inside = λ i li.
-              subst (λ m. i * 1 + r * row_symbols s sh < m) (sym (grid_symbols bytes long))
-              (let m : (r + 1) * row_symbols s sh ≤ rows_of sh * row_symbols s sh = mul-le-mul_right {m = r + 1} {n = rows_of sh} (row_symbols s sh) (omega arith) in
-              let a = add-mul r 1 (row_symbols s sh) in
-              let b = one-mul (row_symbols s sh) in
-              let d = mul-one i in
-              omega arith);
-        }
-
-    pub column_within : (j : ℕ) → j < row_symbols s sh → Within s j (row_symbols s sh) (rows_of sh) bytes
-    column_within j l =
-        let o = order_small s in
-        record {
-          some = omega arith;
-          near = omega arith;
-          close = omega arith;
-          short = omega arith;
-          inside = λ i li. subst (λ m. i * row_symbols s sh + j < m) (sym (grid_symbols bytes long)) (digits_lt li l);
-        }
 
   -- the first k rows have gone from the old lists to new ones, and the others are as they were
   pub record RowsDone (P : List ℕ → List ℕ → Type 0) (k : ℕ) (old new : List ℕ) : Type 0 where
@@ -58,11 +32,8 @@ module _ (s : System) (sh : Shape) where
     pub done : (r : ℕ) → r < k → P (row s sh old r) (row s sh new r)
     pub todo : (r : ℕ) → k ≤ r → row s sh new r ≡ row s sh old r
 
-  pub rows_none : (P : List ℕ → List ℕ → Type 0) (old : List ℕ) → RowsDone P 0 old old
-  rows_none P old = record { long = refl; done = λ r l. absurd (let z : ⊥ = omega arith in z); todo = λ r l. refl }
-
   module _ (P : List ℕ → List ℕ → Type 0) (k : ℕ) (old now new : List ℕ) (d : RowsDone P k old now) (kept : length new ≡ length now)
-      (w : Redone s (k * row_symbols s sh) 1 (row_symbols s sh) P now new) where
+      (w : Changed s (k * row_symbols s sh) 1 (row_symbols s sh) P now new) where
     other_row : (r : ℕ) → (r ≡ k → ⊥) → row s sh new r ≡ row s sh now r
     other_row r ne =
         same_line s new now (r * row_symbols s sh) 1 (row_symbols s sh)
@@ -91,11 +62,8 @@ module _ (s : System) (sh : Shape) where
     pub done : (j : ℕ) → j < k → P (column s sh old j) (column s sh new j)
     pub todo : (j : ℕ) → k ≤ j → j < row_symbols s sh → column s sh new j ≡ column s sh old j
 
-  pub columns_none : (P : List ℕ → List ℕ → Type 0) (old : List ℕ) → ColumnsDone P 0 old old
-  columns_none P old = record { long = refl; done = λ r l. absurd (let z : ⊥ = omega arith in z); todo = λ r l m. refl }
-
   module _ (P : List ℕ → List ℕ → Type 0) (k : ℕ) (old now new : List ℕ) (lk : k < row_symbols s sh) (d : ColumnsDone P k old now) (kept : length new ≡ length now)
-      (w : Redone s k (row_symbols s sh) (rows_of sh) P now new) where
+      (w : Changed s k (row_symbols s sh) (rows_of sh) P now new) where
     other_column : (j : ℕ) → j < row_symbols s sh → (j ≡ k → ⊥) → column s sh new j ≡ column s sh now j
     other_column j lj ne =
         same_line s new now j (row_symbols s sh) (rows_of sh)

@@ -1,11 +1,11 @@
 -- Lines that are copied out, worked on and copied back.
-use Rattle.std.proofs.Common.{◌≡◌, ℕ, ◌+◌, ◌*◌, ◌%◌, ◌<◌, ◌≤◌, Bool, true, false, ltb, List, length, get_or, is_ok, Ok, Err, MatchBool, Result, sym, refl, ap, ◌∙◌, subst, mod-eq_of_lt, mul-lt-mul_of_pos_right, mul-one, arith, get_or-set_other}
+use Rattle.std.proofs.Common.{◌≡◌, ℕ, ◌+◌, ◌*◌, ◌%◌, ◌<◌, ◌≤◌, Bool, true, false, ltb, List, length, get_or, Ok, Err, MatchBool, Result, sym, refl, ap, ◌∙◌, subst, mod-eq_of_lt, mul-lt-mul_of_pos_right, mul-one, arith, get_or-set_other}
 use native.Mathlib.Decide.{ℕ_discrete, dec_lt}
 use Rattle.std.proofs.lemmas.List.FromFn.{length-map-range_with_len, get_or-map-range_with_len, fill_by_all}
 use Rattle.std.proofs.lemmas.List.{ext_get_or}
 use Rattle.std.proofs.lemmas.Bool.{le-ltb}
 use Rattle.field.specs.Systems.{System}
-use Rattle.code.specs.Codewords.{symbols, count}
+use Rattle.code.specs.Codewords.{count}
 use Rattle.code.specs.Filling.{Filled, Filling, Encoded, Encoding}
 use Rattle.code.specs.Acceptance.{Judged, Correction}
 use Rattle.code.specs.declared.correct.Verdict.{Verdict}
@@ -15,7 +15,9 @@ use Rattle.code.specs.declared.error.CodeError.TheVariants.{UnequalLengths, TooL
 use Rattle.grid.specs.Packing.{symbol_at, unpacked}
 use Rattle.grid.specs.Grids.{line}
 use Rattle.grid.specs.Answers.{is_corrected, BytesCorrected, RowCorrection}
-use Rattle.grid.specs.Lines.{Within, Written, Redone, Fillable, FilledIf}
+use Rattle.grid.specs.Fillable.{FilledIf}
+use Rattle.grid.specs.Line.{on, Written, Redone}
+use Rattle.grid.specs.declared.lines.Line.{Line}
 use Rattle.grid.proofs.Parts.{symbol_small, length_unpacked, get_or_unpacked}
 
 module _ (s : System) where
@@ -36,41 +38,47 @@ module _ (s : System) where
   same_line a b start step n h =
       gathered (line s a start step n) b start step n n (length_line a start step n) (omega arith) (λ k l. get_or_line a start step n k l ∙ h k l)
 
-  line_small : (bytes : List ℕ) (start step n i : ℕ) → i < n → get_or (line s bytes start step n) i 0 < s.order
-  line_small bytes start step n i l = subst (λ k. k < s.order) (sym (get_or_line bytes start step n i l)) (symbol_small s bytes (i * step + start))
+  on_small : (l : Line) (bytes : List ℕ) (i : ℕ) → i < length (on s l bytes) → get_or (on s l bytes) i 0 < s.order
+  on_small l bytes i h =
+      let n = length_line bytes l.start l.step l.len in
+      subst (λ k. k < s.order) (sym (get_or_line bytes l.start l.step l.len i (omega arith))) (symbol_small s bytes (i * l.step + l.start))
 
-  -- nothing is written yet
-  pub written_none : (start step : ℕ) (word old : List ℕ) → Written s start step 0 word old old
-  written_none start step word old = record { online = λ i l. absurd (let z : ⊥ = omega arith in z); offline = λ p h. refl }
+  -- a copy
+  copy_long : (l : Line) (bytes copy : List ℕ) → copy ≡ on s l bytes → length copy ≡ l.len
+  copy_long l bytes copy e = ap length e ∙ length_line bytes l.start l.step l.len
+
+  copy_small : (l : Line) (bytes copy : List ℕ) → copy ≡ on s l bytes → (i : ℕ) → i < length copy → get_or copy i 0 < s.order
+  copy_small l bytes copy e i h =
+      subst (λ (x : List ℕ). get_or x i 0 < s.order) (sym e) (on_small l bytes i (subst (λ (x : List ℕ). i < length x) e h))
 
   -- one symbol more is written
-  module _ (start step k : ℕ) (word old now new : List ℕ) (some : 0 < step) (w : Written s start step k word old now)
-      (this : symbol_at s new (k * step + start) ≡ get_or word k 0 % s.order)
-      (others : (i : ℕ) → (i ≡ k * step + start → ⊥) → symbol_at s new i ≡ symbol_at s now i) where
-    before : (i : ℕ) → i < k → i * step + start ≡ k * step + start → ⊥
-    before i l e = let m : i * step < k * step = mul-lt-mul_of_pos_right l some in omega arith
+  module _ (l : Line) (k : ℕ) (word old now new : List ℕ) (w : Written s l k word old now)
+      (this : symbol_at s new (k * l.step + l.start) ≡ get_or word k 0 % s.order)
+      (others : (i : ℕ) → (i ≡ k * l.step + l.start → ⊥) → symbol_at s new i ≡ symbol_at s now i) where
+    before : (i : ℕ) → i < k → i * l.step + l.start ≡ k * l.step + l.start → ⊥
+    before i h e = let m : i * l.step < k * l.step = mul-lt-mul_of_pos_right h l.apart in omega arith
 
-    pub written_more : Written s start step (k + 1) word old new
+    pub written_more : Written s l (k + 1) word old new
     written_more = record {
-      online = λ i l. at i l (ℕ_discrete i k);
+      online = λ i h. at i h (ℕ_discrete i k);
       offline = λ p h.
-          others p (λ e. h k (omega arith) e) ∙ w.offline p (λ i l e. h i (omega arith) e);
+          others p (λ e. h k (omega arith) e) ∙ w.offline p (λ i m e. h i (omega arith) e);
     }
       where
-        at : (i : ℕ) → i < k + 1 → Dec (i ≡ k) → symbol_at s new (i * step + start) ≡ get_or word i 0 % s.order
-        at i l (yes e) = subst (λ j. symbol_at s new (j * step + start) ≡ get_or word j 0 % s.order) (sym e) this
-        at i l (no ne) = others (i * step + start) (before i (omega arith)) ∙ w.online i (omega arith)
+        at : (i : ℕ) → i < k + 1 → Dec (i ≡ k) → symbol_at s new (i * l.step + l.start) ≡ get_or word i 0 % s.order
+        at i h (yes e) = subst (λ j. symbol_at s new (j * l.step + l.start) ≡ get_or word j 0 % s.order) (sym e) this
+        at i h (no ne) = others (i * l.step + l.start) (before i (omega arith)) ∙ w.online i (omega arith)
 
-  -- a line that was copied out, made another list, and copied back
-  pub redone : (P : List ℕ → List ℕ → Type 0) (start step n : ℕ) (old new before after : List ℕ) → before ≡ line s old start step n → length after ≡ n
-      → Written s start step (length after) after old new → ((i : ℕ) → i < n → get_or after i 0 < s.order) → P before after → Redone s start step n P old new
-  redone P start step n old new before after eb la w small p = record {
-    done = subst (λ (x : List ℕ). P x (line s new start step n)) eb (subst (λ (x : List ℕ). P before x) is p);
-    offline = λ q h. w.offline q (λ i l. h i (omega arith));
+  -- a line that was copied out, made another list of symbols, and copied back
+  redone : (P : List ℕ → List ℕ → Type 0) (l : Line) (old new before after : List ℕ) → before ≡ on s l old → length after ≡ l.len
+      → Written s l l.len after old new → ((i : ℕ) → i < length after → get_or after i 0 < s.order) → P before after → Redone s l P old new
+  redone P l old new before after eb la w small p = record {
+    done = subst (λ (x : List ℕ). P x (on s l new)) eb (subst (λ (x : List ℕ). P before x) is p);
+    offline = w.offline;
   }
     where
-      is : after ≡ line s new start step n
-      is = gathered after new start step n n la (omega arith) (λ k l. sym (w.online k (omega arith) ∙ mod-eq_of_lt (small k l)))
+      is : after ≡ on s l new
+      is = gathered after new l.start l.step l.len l.len la (omega arith) (λ k h. sym (w.online k h ∙ mod-eq_of_lt (small k (omega arith))))
 
   -- encoding fits
   pub encoding_ok : (c : ℕ) (old new : List ℕ) (r : Result (Unit {0}) CodeError) → length old < s.order → c ≤ length old → Encoding s c old new r → Encoded s c old new
@@ -97,14 +105,14 @@ module _ (s : System) where
       go true t = e.small i (omega arith) t
       go false t = subst (λ n. n < s.order) (sym (e.same i t)) (h i l)
 
-  pub encode_redone : (c start step n : ℕ) (old new before after : List ℕ) (r : Result (Unit {0}) CodeError) → before ≡ line s old start step n → length before ≡ n → length after ≡ length before
-      → n < s.order → c ≤ n → Encoding s c before after r → Written s start step (length after) after old new → Redone s start step n (Encoded s c) old new
-  encode_redone c start step n old new before after r eb lb la short few e w =
-      let done : Encoded s c before after = encoding_ok c before after r (omega arith) (omega arith) e in
-      let small : (i : ℕ) → i < length before → get_or before i 0 < s.order = λ i l.
-      subst (λ (x : List ℕ). get_or x i 0 < s.order) (sym eb) (line_small old start step n i (omega arith))
-      in
-      redone (Encoded s c) start step n old new before after eb (omega arith) w (λ i l. encoded_small c before after done small i (omega arith)) done
+  pub encode_redone : (l : Line) (old new before after : List ℕ) (r : Result (Unit {0}) CodeError) → l.len < s.order → before ≡ on s l old → length after ≡ length before
+      → Encoding s l.checks before after r → Written s l l.len after old new → Redone s l (Encoded s l.checks) old new
+  encode_redone l old new before after r short eb la e w =
+      let room = l.room in
+      let lb = copy_long l old before eb in
+      let done : Encoded s l.checks before after = encoding_ok l.checks before after r (omega arith) (omega arith) e in
+      redone (Encoded s l.checks) l old new before after eb (omega arith) w
+      (λ i h. encoded_small l.checks before after done (copy_small l old before eb) i (omega arith)) done
 
   -- where filling fits, it is done or there is none
   filling_if : (c : ℕ) (bs : List Bool) (old new : List ℕ) (r : Result (Unit {0}) CodeError) → length bs ≡ length old → length old < s.order → c ≤ length old → count bs ≤ c → Filling s c bs old new r → FilledIf s c bs old new
@@ -126,32 +134,14 @@ module _ (s : System) where
   filling_small c bs old new (Err TooFewChecks) ln h e i l = absurd e
   filling_small c bs old new (Err TooManyChecks) ln h e i l = subst (λ (x : List ℕ). get_or x i 0 < s.order) (sym e.3) (h i l)
 
-  pub fill_redone : (c : ℕ) (bs : List Bool) (start step n : ℕ) (old new before after : List ℕ) (r : Result (Unit {0}) CodeError) → before ≡ line s old start step n → length before ≡ n → length after ≡ length before
-      → n < s.order → c ≤ n → length bs ≡ n → count bs ≤ c → Filling s c bs before after r → Written s start step (length after) after old new → Redone s start step n (FilledIf s c bs) old new
-  fill_redone c bs start step n old new before after r eb lb la short room lbs few e w =
-      let small : (i : ℕ) → i < length before → get_or before i 0 < s.order = λ i l.
-      subst (λ (x : List ℕ). get_or x i 0 < s.order) (sym eb) (line_small old start step n i (omega arith))
-      in
-      redone (FilledIf s c bs) start step n old new before after eb (omega arith) w (λ i l. filling_small c bs before after r la small e i (omega arith))
-      (filling_if c bs before after r (omega arith) (omega arith) (omega arith) few e)
-
-  -- what filling a copy says of the line
-  pub fillable_is : (c : ℕ) (bs : List Bool) (line before after : List ℕ) (r : Result (Unit {0}) CodeError) (t : Bool) → before ≡ line → length bs ≡ length before → length before < s.order → c ≤ length before → count bs ≤ c
-      → Filling s c bs before after r → t ≡ is_ok r → MatchBool t (Fillable s c bs line) (Fillable s c bs line → ⊥)
-  fillable_is c bs line before after (Ok u) true eb lb short room few e h =
-      subst (λ (x : List ℕ). Fillable s c bs x) eb (symbols s after, e.4.completes)
-  fillable_is c bs line before after (Ok u) false eb lb short room few e h = absurd (let z : ◌≡◌ {A = ℕ} 0 1 = cc in let y : ⊥ = omega arith in y)
-  fillable_is c bs line before after (Err x) true eb lb short room few e h = absurd (let z : ◌≡◌ {A = ℕ} 0 1 = cc in let y : ⊥ = omega arith in y)
-  fillable_is c bs line before after (Err x) false eb lb short room few e h =
-      λ f. none x e (subst (λ (y : List ℕ). Fillable s c bs y) (sym eb) f)
-    where
-      none : (x : CodeError) → Filling s c bs before after (Err x) → Fillable s c bs before → ⊥
-      none UnequalLengths e f = e.0 lb
-      none TooLong e f = let l = e.1 in let z : ⊥ = omega arith in z
-      none TooManyUnknown e f = let l = e.3 in let z : ⊥ = omega arith in z
-      none NoCodeword e f = e.4 f.0 f.1
-      none TooFewChecks e f = e
-      none TooManyChecks e f = let l = e.2 in let z : ⊥ = omega arith in z
+  pub fill_redone : (l : Line) (bs : List Bool) (old new before after : List ℕ) (r : Result (Unit {0}) CodeError) → l.len < s.order → length bs ≡ l.len → count bs ≤ l.checks → before ≡ on s l old → length after ≡ length before
+      → Filling s l.checks bs before after r → Written s l l.len after old new → Redone s l (FilledIf s l.checks bs) old new
+  fill_redone l bs old new before after r short lbs few eb la e w =
+      let room = l.room in
+      let lb = copy_long l old before eb in
+      redone (FilledIf s l.checks bs) l old new before after eb (omega arith) w
+      (λ i h. filling_small l.checks bs before after r (omega arith) (copy_small l old before eb) e i (omega arith))
+      (filling_if l.checks bs before after r (omega arith) (omega arith) (omega arith) few e)
 
   -- a byte string as one line
   whole_line : (bytes : List ℕ) → line s bytes 0 1 (length bytes * s.per) ≡ unpacked s bytes
@@ -182,18 +172,6 @@ module _ (s : System) where
   correction_small c old new (Err TooManyUnknown) e h i l = absurd e
   correction_small c old new (Err NoCodeword) e h i l = absurd e
 
-  correct_redone : (c n : ℕ) (old new before after : List ℕ) (r : Result Verdict CodeError) → n ≡ length old * s.per → before ≡ line s old 0 1 n → length before ≡ n → length after ≡ length before → length new ≡ length old
-      → Correction s c before after r → Written s 0 1 (length after) after old new → Correction s c (unpacked s old) (unpacked s new) r
-  correct_redone c n old new before after r en eb lb la ln e w =
-      let small : (i : ℕ) → i < length before → get_or before i 0 < s.order = λ i l.
-      subst (λ (x : List ℕ). get_or x i 0 < s.order) (sym eb) (line_small old 0 1 n i (omega arith))
-      in
-      let done : Redone s 0 1 n (λ (x y : List ℕ). Correction s c x y r) old new =
-      redone (λ (x y : List ℕ). Correction s c x y r) 0 1 n old new before after eb (omega arith) w (λ i l. correction_small c before after r e small i (omega arith)) e
-      in
-      subst (λ (x : List ℕ). Correction s c x (unpacked s new) r) (ap (line s old 0 1) en ∙ whole_line old)
-      (subst (λ (x : List ℕ). Correction s c (line s old 0 1 n) x r) (ap (line s new 0 1) (en ∙ ap (λ m. m * s.per) (sym ln)) ∙ whole_line new) done.done)
-
   -- nothing was corrected: the list is as it was
   correction_else : (c : ℕ) (old new : List ℕ) (r : Result Verdict CodeError) → is_corrected r ≡ false → Correction s c old new r → new ≡ old
   correction_else c old new (Ok Clean) n e = e.3.0
@@ -206,40 +184,40 @@ module _ (s : System) where
   correction_else c old new (Err TooManyUnknown) n e = absurd e
   correction_else c old new (Err NoCodeword) n e = absurd e
 
-  pub corrected_then : (c n : ℕ) (old new before after : List ℕ) (r : Result Verdict CodeError) → n ≡ length old * s.per → before ≡ line s old 0 1 n → length before ≡ n → length after ≡ length before → length new ≡ length old
-      → is_corrected r ≡ true → Correction s c before after r → Written s 0 1 (length after) after old new → BytesCorrected s c old new r
-  corrected_then c n old new before after r en eb lb la ln t e w = record {
-    symbols = correct_redone c n old new before after r en eb lb la ln e w;
-    kept = λ f. absurd (let u : true ≡ false = sym t ∙ f in let z : ◌≡◌ {A = ℕ} 0 1 = cc in let y : ⊥ = omega arith in y);
-  }
+  -- what corrects a copy of the whole byte string corrects its symbols
+  module _ (l : Line) (old : List ℕ) (start : l.start ≡ 0) (step : l.step ≡ 1) (len : l.len ≡ length old * s.per) where
+    whole : (bytes : List ℕ) → length bytes ≡ length old → on s l bytes ≡ unpacked s bytes
+    whole bytes e =
+        ap (λ i. line s bytes i l.step l.len) start ∙ ap (λ i. line s bytes 0 i l.len) step
+        ∙ ap (line s bytes 0 1) (len ∙ ap (λ n. n * s.per) (sym e)) ∙ whole_line bytes
 
-  pub corrected_else : (c n : ℕ) (old new before after : List ℕ) (r : Result Verdict CodeError) → n ≡ length old * s.per → before ≡ line s old 0 1 n → new ≡ old
-      → is_corrected r ≡ false → Correction s c before after r → BytesCorrected s c old new r
-  corrected_else c n old new before after r en eb same f e =
-      let is : before ≡ unpacked s old = eb ∙ ap (line s old 0 1) en ∙ whole_line old in
-      record {
-        symbols =
-            subst (λ (x : List ℕ). Correction s c x (unpacked s new) r) is
-            (subst (λ (x : List ℕ). Correction s c before x r) (correction_else c before after r f e ∙ is ∙ ap (unpacked s) (sym same)) e);
-        kept = λ _. same;
-      }
+    module _ (before after : List ℕ) (r : Result Verdict CodeError) (eb : before ≡ on s l old) (e : Correction s l.checks before after r) where
+      pub corrected_then : (new : List ℕ) → length new ≡ length old → length after ≡ length before → is_corrected r ≡ true → Written s l l.len after old new → BytesCorrected s l.checks old new r
+      corrected_then new ln la t w =
+          let lb = copy_long l old before eb in
+          let small : (i : ℕ) → i < length after → get_or after i 0 < s.order = λ i h.
+          correction_small l.checks before after r e (copy_small l old before eb) i (omega arith)
+          in
+          let done = redone (λ (x y : List ℕ). Correction s l.checks x y r) l old new before after eb (omega arith) w small e in
+          record {
+            symbols =
+                subst (λ (x : List ℕ). Correction s l.checks x (unpacked s new) r) (whole old refl)
+                (subst (λ (x : List ℕ). Correction s l.checks (on s l old) x r) (whole new ln) done.done);
+            kept = λ f. absurd (let u : true ≡ false = sym t ∙ f in let z : ◌≡◌ {A = ℕ} 0 1 = cc in let y : ⊥ = omega arith in y);
+          }
 
-  -- all the symbols of so many bytes
-  pub whole_within : (n bytes : ℕ) → n ≡ bytes * s.per → bytes * s.per ≤ 255 → Within s 0 1 n bytes
-  whole_within n bytes e few = record {
-    some = omega arith;
-    near = omega arith;
-    close = omega arith;
-    short = omega arith;
-    inside = λ i l. let m = mul-one i in omega arith;
-  }
+      pub corrected_else : is_corrected r ≡ false → BytesCorrected s l.checks old old r
+      corrected_else f =
+          let is : before ≡ unpacked s old = eb ∙ whole old refl in
+          record {
+            symbols =
+                subst (λ (x : List ℕ). Correction s l.checks x (unpacked s old) r) is
+                (subst (λ (x : List ℕ). Correction s l.checks before x r) (correction_else l.checks before after r f e ∙ is) e);
+            kept = λ _. refl;
+          }
 
   choose : (A B : Type 0) (a b : ℕ) → b ≤ a → B → MatchBool (ltb a b) A B
   choose A B a b l x = subst (λ t. MatchBool t A B) (sym (le-ltb a b l)) x
-
-  pub corrected_row : (c m : ℕ) (old new : List ℕ) (r : Result Verdict CodeError) → m ≡ s.per → c ≤ length old → BytesCorrected s (c * m) old new r → RowCorrection s c old new r
-  corrected_row c m old new r em l e =
-      choose ((r ≡ Err TooManyChecks) × (new ≡ old)) (BytesCorrected s (c * s.per) old new r) (length old) c l (subst (λ n. BytesCorrected s (c * n) old new r) em e)
 
   pub too_long_row : (c : ℕ) (old new : List ℕ) → new ≡ old → c ≤ length old → s.order ≤ length old * s.per → RowCorrection s c old new (Err TooLong)
   too_long_row c old new e l h =

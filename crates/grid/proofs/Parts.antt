@@ -1,16 +1,15 @@
 -- The parts of a byte, and the symbols of a byte string.
-use Rattle.std.proofs.Common.{◌≡◌, ℕ, ◌+◌, ◌-◌, ◌*◌, ◌/◌, ◌%◌, ◌^◌, ◌<◌, ◌≤◌, true, false, cond, eqb, List, map, length, get_or, set, Ok, Err, sym, ap, ◌∙◌, subst, ap₂, add-zero, mod-lt, mod-eq_of_lt, div-lt_iff_lt-mul, pow-suc, div-add-mod', add-one, arith, get_or-set_other, get_or-set_same}
-use native.Mathlib.Nat.{pow-le-pow_right, div-eq_of_lt, one-le-pow}
-use native.Mathlib.Decide.{ℕ_discrete}
+use Rattle.std.proofs.Common.{◌≡◌, ℕ, zero, suc, ◌+◌, ◌-◌, ◌*◌, ◌/◌, ◌%◌, ◌^◌, ◌<◌, ◌≤◌, List, map, length, get_or, set, sym, ap, ◌∙◌, subst, ap₂, add-zero, mul-le-mul_left, mul-one, mod-lt, mod-eq_of_lt, div-lt_iff_lt-mul, pow-suc, div-add-mod', add-one, arith, get_or-set_other, get_or-set_same}
+use native.Mathlib.Nat.{pow-zero, pow-le-pow_right, div-eq_of_lt, one-le-pow}
+use native.Mathlib.Decide.{ℕ_discrete, dec_lt}
 use lib.Arith.{digits_div, digits_mod, digits_lt}
 use lib.ListN.{length-map}
 use Rattle.std.proofs.lemmas.List.{ext_get_or, get_or_past, get_or-map}
 use Rattle.std.proofs.lemmas.List.FromFn.{length-map-range_with_len, get_or-map-range_with_len, fill_by_all}
-use Rattle.std.proofs.lemmas.Bool.{eq-eqb, ne_eqb}
+use Rattle.byte_string.specs.Bytes.{Bytes}
 use Rattle.field.specs.Systems.{System}
 use Rattle.field.proofs.Sizes.{per_some}
-use Rattle.code.specs.declared.error.CodeError.TheVariants.{UnequalLengths}
-use Rattle.grid.specs.Packing.{Bytes, part, symbol_at, unpacked, length_reply, SymbolsTellBytes}
+use Rattle.grid.specs.Packing.{part, symbol_at, unpacked, SymbolsTellBytes}
 use Rattle.grid.proofs.Digits.{replaced, digit_here, digit_other, replaced_small, same_digits}
 
 module _ (s : System) where
@@ -23,6 +22,29 @@ module _ (s : System) where
 
   pub weight_more : (e : ℕ) → s.order ^ e * s.order ≡ s.order ^ (e + 1)
   weight_more e = sym (ap (λ n. s.order ^ n) (add-one e) ∙ pow-suc s.order e)
+
+  -- so a byte has few parts
+  pub per_small : s.per < 256
+  per_small = go (dec_lt 1 s.order)
+    where
+      above : 1 < s.order → (m : ℕ) → m < s.order ^ m
+      above h zero = omega (arith, pow-zero s.order)
+      above h (suc m) =
+          let i = above h m in
+          let d : s.order ^ m * 2 ≤ s.order ^ m * s.order = mul-le-mul_left {m = 2} {n = s.order} (s.order ^ m) h in
+          omega (arith, pow-suc s.order m)
+
+      ones : (m : ℕ) → 1 ^ m ≡ 1
+      ones zero = pow-zero 1
+      ones (suc m) = pow-suc 1 m ∙ mul-one (1 ^ m) ∙ ones m
+
+      go : Dec (1 < s.order) → s.per < 256
+      go (yes h) = subst (λ n. s.per < n) s.whole_byte (above h s.per)
+      go (no n) =
+          let some = s.some in
+          let one : s.order ≡ 1 = omega arith in
+          let z : ◌≡◌ {A = ℕ} 1 256 = sym (ones s.per) ∙ ap (λ q. q ^ s.per) (sym one) ∙ s.whole_byte in
+          absurd (omega arith)
 
   pub part_small : (b k : ℕ) → part s b k < s.order
   part_small b k = mod-lt (b / s.order ^ (s.per - 1 - k)) s.some
@@ -113,31 +135,31 @@ module _ (s : System) where
       whole : (m : ℕ) → m * s.per / s.per ≡ m
       whole m = ap (λ x. x / s.per) (sym (add-zero (m * s.per))) ∙ digits_div m (per_some s)
 
-  -- The arithmetic of replacing a part, with w for the part's weight and q for the order.
-  module _ (b k v w q : ℕ) (lb : b < 256) (lk : k < s.per) (ew : w ≡ s.order ^ (s.per - 1 - k)) (eq : q ≡ s.order) where
-    total_is : b / (w * q) * (w * q) + v % q * w + b % w ≡ replaced s.order s.some (s.per - 1 - k) (v % s.order) b
-    total_is = ap₂ (λ x y. b / (x * y) * (x * y) + v % y * x + b % x) ew eq
-
+  -- replacing a part, with w for the part's weight and q for the order
+  pub record Replacing (b k v w q : ℕ) : Type 0 where
     pub unit_some : 0 < w
-    unit_some = subst (λ n. 0 < n) (sym ew) (weight_some (s.per - 1 - k))
-
-    pub step_is : w * q ≡ s.order ^ (s.per - 1 - k + 1)
-    step_is = ap₂ (λ x y. x * y) ew eq ∙ weight_more (s.per - 1 - k)
-
-    pub step_small : w * q ≤ 256
-    step_small = subst (λ n. n ≤ 256) (sym step_is) (weight_small (s.per - 1 - k + 1) (omega arith))
-
     pub step_some : 0 < w * q
-    step_some = subst (λ n. 0 < n) (sym step_is) (weight_some (s.per - 1 - k + 1))
-
+    pub step_small : w * q ≤ 256
     pub total_small : b / (w * q) * (w * q) + v % q * w + b % w < 256
-    total_small = subst (λ n. n < 256) (sym total_is) (replaced_byte b k (v % s.order) lb lk (mod-lt v s.some))
+    pub this : part s (b / (w * q) * (w * q) + v % q * w + b % w) k ≡ v % s.order
+    pub others : (j : ℕ) → j < s.per → (j ≡ k → ⊥) → part s (b / (w * q) * (w * q) + v % q * w + b % w) j ≡ part s b j
 
-    pub total_this : part s (b / (w * q) * (w * q) + v % q * w + b % w) k ≡ v % s.order
-    total_this = ap (λ n. part s n k) total_is ∙ replaced_this b k (v % s.order) lb lk (mod-lt v s.some)
-
-    pub total_others : (j : ℕ) → j < s.per → (j ≡ k → ⊥) → part s (b / (w * q) * (w * q) + v % q * w + b % w) j ≡ part s b j
-    total_others j lj ne = ap (λ n. part s n j) total_is ∙ replaced_others b k (v % s.order) lb lk (mod-lt v s.some) j lj ne
+  pub replacing : (b k v w q : ℕ) → b < 256 → k < s.per → w ≡ s.order ^ (s.per - 1 - k) → q ≡ s.order → Replacing b k v w q
+  replacing b k v w q lb lk ew eq =
+      let e = s.per - 1 - k in
+      let total : b / (w * q) * (w * q) + v % q * w + b % w ≡ replaced s.order s.some e (v % s.order) b =
+      ap₂ (λ x y. b / (x * y) * (x * y) + v % y * x + b % x) ew eq
+      in
+      let step : w * q ≡ s.order ^ (e + 1) = ap₂ (λ x y. x * y) ew eq ∙ weight_more e in
+      let lv = mod-lt v s.some in
+      record {
+        unit_some = subst (λ n. 0 < n) (sym ew) (weight_some e);
+        step_some = subst (λ n. 0 < n) (sym step) (weight_some (e + 1));
+        step_small = subst (λ n. n ≤ 256) (sym step) (weight_small (e + 1) (omega arith));
+        total_small = subst (λ n. n < 256) (sym total) (replaced_byte b k (v % s.order) lb lk lv);
+        this = ap (λ n. part s n k) total ∙ replaced_this b k (v % s.order) lb lk lv;
+        others = λ j lj ne. ap (λ n. part s n j) total ∙ replaced_others b k (v % s.order) lb lk lv j lj ne;
+      }
 
   -- past the end there is 0
   pub symbol_past : (bytes : List ℕ) (p m : ℕ) → m ≡ s.per → length bytes ≤ p / m → 0 ≡ symbol_at s bytes p
@@ -160,26 +182,6 @@ module _ (s : System) where
       others j lj (λ z. ne (z ∙ ap (λ n. p % n) e)) ∙ ap (λ n. part s (get_or bytes (p / n) 0) j) e
       in
       subst P (sym e) (symbol_this bytes p w (v % s.order) l this' others', symbol_others bytes p w (v % s.order) l this' others')
-
-  many : (n : ℕ) → n * s.per % s.per ≡ 0
-  many n = ap (λ x. x % s.per) (sym (add-zero (n * s.per))) ∙ digits_mod n (per_some s)
-
-  -- the test of two lengths
-  pub together : (a b m : ℕ) → m ≡ s.per → a % m ≡ 0 → eqb (a / m) b ≡ eqb a (b * s.per)
-  together a b m e z =
-      let whole : a ≡ a / s.per * s.per =
-      sym (div-add-mod' a s.per) ∙ ap (λ n. a / s.per * s.per + n) (ap (λ n. a % n) (sym e) ∙ z) ∙ add-zero (a / s.per * s.per)
-      in
-      ap (λ n. eqb (a / n) b) e ∙ go whole (ℕ_discrete (a / s.per) b)
-    where
-      go : a ≡ a / s.per * s.per → Dec (a / s.per ≡ b) → eqb (a / s.per) b ≡ eqb a (b * s.per)
-      go w (yes h) = eq-eqb (a / s.per) b h ∙ sym (eq-eqb a (b * s.per) (w ∙ ap (λ n. n * s.per) h))
-      go w (no n) =
-          ne_eqb (a / s.per) b n
-          ∙ sym (ne_eqb a (b * s.per) (λ h. n (ap (λ k. k / s.per) h ∙ ap (λ k. k / s.per) (sym (add-zero (b * s.per))) ∙ digits_div b (per_some s))))
-
-  pub not_together : (a b m : ℕ) → m ≡ s.per → (a % m ≡ 0 → ⊥) → false ≡ eqb a (b * s.per)
-  not_together a b m e n = sym (ne_eqb a (b * s.per) (λ h. n (ap (λ k. a % k) e ∙ ap (λ k. k % s.per) h ∙ many b)))
 
   -- symbols written one after another
   pub unpacked_is : (bytes symbols : List ℕ) (n : ℕ) → length symbols ≡ length bytes * s.per → n ≡ length symbols → ((k : ℕ) → k < n → get_or symbols k 0 ≡ symbol_at s bytes k) → symbols ≡ unpacked s bytes
@@ -209,6 +211,3 @@ module _ (s : System) where
   -- packing undoes unpacking
   pub packed_undoes : (bytes symbols : List ℕ) → Bytes bytes → unpacked s bytes ≡ map (λ x. x % s.order) symbols → (b : List ℕ) → Bytes b → unpacked s b ≡ symbols → bytes ≡ b
   packed_undoes bytes symbols bb e b bytes_b f = symbols_tell_bytes bytes b bb bytes_b (e ∙ reduced b symbols f ∙ sym f)
-
-  pub length_ok : (symbols bytes : ℕ) → true ≡ eqb symbols (bytes * s.per) → Ok tt ≡ length_reply s symbols bytes
-  length_ok symbols bytes e = ap (λ b. cond b (Ok tt) (Err UnequalLengths)) e

@@ -1,118 +1,154 @@
--- The calls on lines that work through a grid, from the sizes that were measured.
-use Rattle.std.proofs.Common.{◌≡◌, ℕ, ◌+◌, ◌*◌, ◌%◌, ◌<◌, ◌≤◌, Bool, List, length, get_or, MatchBool, sym, refl, ap, ◌∙◌, subst, ap₂, mod-eq_of_lt, mul_assoc, mul-le-mul, arith}
+-- The lines of a grid that was measured, and the calls that work through it.
+use Rattle.std.proofs.Common.{◌≡◌, ℕ, ◌+◌, ◌*◌, ◌%◌, ◌<◌, ◌≤◌, Bool, List, length, get_or, MatchBool, sym, ap, ◌∙◌, subst, mod-eq_of_lt, mul_assoc, mul-le-mul_right, add-mul, one-mul, mul-one, arith}
 use native.Mathlib.Decide.{ℕ_discrete}
 use lib.Arith.{digits_lt, digits_mod}
 use Rattle.field.specs.Systems.{System}
-use Rattle.field.proofs.Sizes.{order_small}
 use Rattle.code.specs.Codewords.{Codeword, symbols, syndrome, syndrome_of}
-use Rattle.grid.specs.Grids.{rows_of, row_symbols, data_symbols, check_symbols, line, row, column}
+use Rattle.code.specs.Filling.{Encoded}
+use Rattle.grid.specs.Grids.{rows_of, row_bytes, row_symbols, data_symbols, check_symbols, line, row, column}
 use Rattle.grid.specs.Packing.{symbol_at}
-use Rattle.grid.specs.Lines.{Within, Written, Redone, Fillable}
-use Rattle.grid.specs.Measures.{Sized}
+use Rattle.grid.specs.Fillable.{Fillable}
+use Rattle.grid.specs.Line.{on, Within, Written, Redone}
+use Rattle.grid.specs.Measures.{Sized, IsRow, IsColumn, IsSyndromes}
 use Rattle.grid.specs.declared.shape.Shape.{Shape}
-use Rattle.grid.specs.declared.shape.Sizes.{Sizes}
+use Rattle.grid.specs.declared.shape.Grid.{Grid}
+use Rattle.grid.specs.declared.lines.Line.{Line}
 use Rattle.grid.proofs.Fitting.{parts_of_row}
-use Rattle.grid.proofs.GridWork.{row_within, column_within, RowsDone, rows_more, ColumnsDone, columns_more}
+use Rattle.grid.proofs.GridWork.{changed, RowsDone, rows_more, ColumnsDone, columns_more}
 
-redone_at : (s : System) (P Q : List ℕ → List ℕ → Type 0) (a b c d n m : ℕ) (old new : List ℕ) → a ≡ b → c ≡ d → n ≡ m → ((x y : List ℕ) → P x y → Q x y)
-    → Redone s a c n P old new → Redone s b d m Q old new
-redone_at s P Q a b c d n m old new ea ec en f w =
-    subst (λ i. Redone s i d m Q old new) ea (subst (λ i. Redone s a i m Q old new) ec (subst (λ i. Redone s a c i Q old new) en
-    (record { done = f _ _ w.done; offline = w.offline })))
+module _ {s : System} {sh : Shape} {len : ℕ} {g : Grid} (h : Sized s sh len g) where
+  -- the bytes of the grid have so many symbols
+  grid_symbols : len * s.per ≡ rows_of sh * row_symbols s sh
+  grid_symbols = ap (λ b. b * s.per) h.long ∙ mul_assoc (rows_of sh) (row_bytes sh) s.per
 
-module _ (s : System) (sh : Shape) (len : ℕ) (z : Sizes) (h : Sized s sh len z) where
-  small : (z.rows < 256) × (z.symbols < 256) × (z.«data» ≤ z.symbols) × (z.checks ≤ z.symbols)
-  small =
-      let o = order_small s in
-      let a = h.rows in
-      let b = h.symbols in
-      let c = h.few in
-      let d = h.short in
-      let e = h.data' in
-      let f = h.checks in
-      let p = parts_of_row s sh in
-      (omega arith, omega arith, omega arith, omega arith)
+  module _ {r : ℕ} {l : Line} (e : IsRow g r l) where
+    row_start : l.start ≡ r * row_symbols s sh
+    row_start = e.start ∙ ap (λ n. r * n) h.columns
 
-  pub sizes_small : (z.rows ≤ 255) × (z.symbols ≤ 255) × (z.«data» ≤ z.symbols) × (z.checks ≤ z.symbols)
-  sizes_small = (omega (arith, small), omega (arith, small), small.2, small.3)
+    row_len : l.len ≡ row_symbols s sh
+    row_len = e.len ∙ h.columns
 
-  pub checks_small : sh.check_rows ≤ 255
-  checks_small = let a = h.rows in omega (arith, small)
+    row_checks : l.checks ≡ check_symbols s sh
+    row_checks =
+        let a = h.columns in
+        let b = h.data_columns in
+        let c = e.checks in
+        let p = parts_of_row s sh in
+        omega arith
 
-  pub start_small : (r : ℕ) → r < z.rows → r * z.symbols < 65536
-  start_small r l =
-      let m : r * z.symbols ≤ 255 * 255 = mul-le-mul {n₁ = r} {m₁ = z.symbols} {n₂ = 255} {m₂ = 255} (omega (arith, small)) (omega (arith, small)) in
-      omega arith
+    row_on : (bytes : List ℕ) → on s l bytes ≡ row s sh bytes r
+    row_on bytes =
+        ap (λ i. line s bytes i l.step l.len) row_start ∙ ap (λ i. line s bytes (r * row_symbols s sh) i l.len) e.step
+        ∙ ap (line s bytes (r * row_symbols s sh) 1) row_len
 
-  pub rows_short : (n : ℕ) → n ≡ z.symbols → (n < s.order) × (z.checks ≤ n)
-  rows_short n e = let b = h.symbols in let d = h.short in (omega arith, omega (arith, small))
-
-  pub columns_short : (n : ℕ) → n ≡ z.rows → (n < s.order) × (sh.check_rows ≤ n)
-  columns_short n e = let a = h.rows in let c = h.few in (omega arith, omega arith)
-
-  pub row_call : (r n m : ℕ) → r < z.rows → n ≡ z.symbols → m ≡ len → Within s (r * z.symbols) 1 n m
-  row_call r n m l en em =
-      subst (λ i. Within s (r * i) 1 n m) (sym h.symbols)
-      (subst (λ i. Within s (r * row_symbols s sh) 1 i m) (sym (en ∙ h.symbols))
-      (row_within s sh h.few h.short m (em ∙ h.long) r (let a = h.rows in omega arith)))
-
-  pub column_call : (j n m : ℕ) → j < z.«data» → n ≡ z.rows → m ≡ len → Within s j z.symbols n m
-  column_call j n m l en em =
-      subst (λ i. Within s j i n m) (sym h.symbols)
-      (subst (λ i. Within s j (row_symbols s sh) i m) (sym (en ∙ h.rows))
-      (column_within s sh h.few h.short m (em ∙ h.long) j (let b = h.symbols in omega (arith, small))))
-
-  pub row_step : (P Q : List ℕ → List ℕ → Type 0) (r n : ℕ) (old now new : List ℕ) → n ≡ z.symbols → ((x y : List ℕ) → P x y → Q x y) → RowsDone s sh Q r old now → length new ≡ length now
-      → Redone s (r * z.symbols) 1 n P now new → RowsDone s sh Q (r + 1) old new
-  row_step P Q r n old now new en f d kept w =
-      rows_more s sh Q r old now new d kept
-      (redone_at s P Q (r * z.symbols) (r * row_symbols s sh) 1 1 n (row_symbols s sh) now new (ap (λ i. r * i) h.symbols) refl (en ∙ h.symbols) f w)
-
-  pub column_step : (P Q : List ℕ → List ℕ → Type 0) (j n : ℕ) (old now new : List ℕ) → j < z.«data» → n ≡ z.rows → ((x y : List ℕ) → P x y → Q x y) → ColumnsDone s sh Q j old now
-      → length new ≡ length now → Redone s j z.symbols n P now new → ColumnsDone s sh Q (j + 1) old new
-  column_step P Q j n old now new l en f d kept w =
-      columns_more s sh Q j old now new (let b = h.symbols in omega (arith, small)) d kept
-      (redone_at s P Q j j z.symbols (row_symbols s sh) n (rows_of sh) now new refl h.symbols (en ∙ h.rows) f w)
-
-  pub judged_row : (bytes : List ℕ) (r n : ℕ) (b : Bool) → n ≡ z.symbols
-      → MatchBool b (Codeword s z.checks (symbols s (line s bytes (r * z.symbols) 1 n))) (Codeword s z.checks (symbols s (line s bytes (r * z.symbols) 1 n)) → ⊥)
-      → MatchBool b (Codeword s (check_symbols s sh) (symbols s (row s sh bytes r))) (Codeword s (check_symbols s sh) (symbols s (row s sh bytes r)) → ⊥)
-  judged_row bytes r n b en w =
-      let V : ℕ → ℕ → ℕ → Type 0 = λ c a m.
-      MatchBool b (Codeword s c (symbols s (line s bytes (r * a) 1 m))) (Codeword s c (symbols s (line s bytes (r * a) 1 m)) → ⊥)
-      in
-      subst (λ i. V (check_symbols s sh) i (row_symbols s sh)) h.symbols
-      (subst (λ i. V (check_symbols s sh) z.symbols i) (en ∙ h.symbols) (subst (λ i. V i z.symbols n) h.checks w))
-
-  pub fillable_column : (c : ℕ) (lost : List Bool) (bytes : List ℕ) (j n : ℕ) → n ≡ z.rows → Fillable s c lost (line s bytes j z.symbols n) → Fillable s c lost (column s sh bytes j)
-  fillable_column c lost bytes j n en f =
-      subst (λ i. Fillable s c lost (line s bytes j i (rows_of sh))) h.symbols (subst (λ i. Fillable s c lost (line s bytes j z.symbols i)) (en ∙ h.rows) f)
-
-  module _ (sums : ℕ) (many : sums ≡ sh.check_rows * sh.data_bytes) where
-    pub syndromes_call : (j n m : ℕ) → j < z.«data» → n ≡ sh.check_rows → m ≡ sums → Within s j z.«data» n m
-    syndromes_call j n m l en em =
-        let a = h.rows in
+    pub row_within : {m : ℕ} → r < g.rows → m ≡ len → Within s l m
+    row_within {m} lr em =
+        let n = row_symbols s sh in
+        let short = h.short in
         record {
-          some = omega arith;
-          near = omega (arith, small);
-          close = omega (arith, small);
-          short = omega (arith, small);
+          few = subst (λ k. k < s.order) (sym row_len) short;
           inside = λ i li.
-              subst (λ k. i * z.«data» + j < k)
-              (sym (ap (λ k. k * s.per) (em ∙ many) ∙ mul_assoc sh.check_rows sh.data_bytes s.per ∙ ap (λ k. sh.check_rows * k) (sym h.data')))
-              (digits_lt (subst (λ k. i < k) en li) l);
+              let rows : (r + 1) * n ≤ rows_of sh * n = mul-le-mul_right {m = r + 1} {n = rows_of sh} n (let a = h.rows in omega arith) in
+              let here : i * 1 + r * n < rows_of sh * n =
+              let a = add-mul r 1 n in
+              let b = one-mul n in
+              let d = mul-one i in
+              let f = row_len in
+              omega arith
+              in
+              subst (λ k. i * k + l.start < m * s.per) (sym e.step)
+              (subst (λ k. i * 1 + k < m * s.per) (sym row_start) (subst (λ k. i * 1 + r * n < k) (sym (ap (λ k. k * s.per) em ∙ grid_symbols)) here));
+        }
+
+    pub row_step : {old now new : List ℕ} → RowsDone s sh (Encoded s (check_symbols s sh)) r old now → length new ≡ length now → Redone s l (Encoded s l.checks) now new
+        → RowsDone s sh (Encoded s (check_symbols s sh)) (r + 1) old new
+    row_step {old} {now} {new} d kept w =
+        rows_more s sh (Encoded s (check_symbols s sh)) r old now new d kept
+        (changed s l (Encoded s l.checks) (Encoded s (check_symbols s sh)) (r * row_symbols s sh) 1 (row_symbols s sh) now new row_start e.step row_len
+        (λ x y. subst (λ n. Encoded s n x y) row_checks) w)
+
+    pub judged_row : (bytes : List ℕ) (b : Bool)
+        → MatchBool b (Codeword s l.checks (symbols s (on s l bytes))) (Codeword s l.checks (symbols s (on s l bytes)) → ⊥)
+        → MatchBool b (Codeword s (check_symbols s sh) (symbols s (row s sh bytes r))) (Codeword s (check_symbols s sh) (symbols s (row s sh bytes r)) → ⊥)
+    judged_row bytes b w =
+        let V : ℕ → List ℕ → Type 0 = λ c x. MatchBool b (Codeword s c (symbols s x)) (Codeword s c (symbols s x) → ⊥) in
+        subst (V (check_symbols s sh)) (row_on bytes) (subst (λ c. V c (on s l bytes)) row_checks w)
+
+  module _ {j : ℕ} {l : Line} (e : IsColumn g j l) where
+    column_step_is : l.step ≡ row_symbols s sh
+    column_step_is = e.step ∙ h.columns
+
+    column_len : l.len ≡ rows_of sh
+    column_len = e.len ∙ h.rows
+
+    column_checks : l.checks ≡ sh.check_rows
+    column_checks = e.checks ∙ h.check_rows
+
+    pub column_on : (bytes : List ℕ) → on s l bytes ≡ column s sh bytes j
+    column_on bytes =
+        ap (λ i. line s bytes i l.step l.len) e.start ∙ ap (λ i. line s bytes j i l.len) column_step_is ∙ ap (line s bytes j (row_symbols s sh)) column_len
+
+    pub column_within : {m : ℕ} → j < g.data_columns → m ≡ len → Within s l m
+    column_within {m} lj em =
+        let few = h.few in
+        record {
+          few = subst (λ k. k < s.order) (sym column_len) few;
+          inside = λ i li.
+              let here : i * row_symbols s sh + j < rows_of sh * row_symbols s sh =
+              digits_lt (subst (λ k. i < k) column_len li) (let a = h.columns in let b = g.column_part in omega arith)
+              in
+              subst (λ k. i * k + l.start < m * s.per) (sym column_step_is)
+              (subst (λ k. i * row_symbols s sh + k < m * s.per) (sym e.start)
+              (subst (λ k. i * row_symbols s sh + j < k) (sym (ap (λ k. k * s.per) em ∙ grid_symbols)) here));
+        }
+
+    -- one column more, by a change that names the number of checks
+    pub column_step : (P : ℕ → List ℕ → List ℕ → Type 0) {old now new : List ℕ} → j < g.data_columns → ColumnsDone s sh (P sh.check_rows) j old now → length new ≡ length now
+        → Redone s l (P l.checks) now new → ColumnsDone s sh (P sh.check_rows) (j + 1) old new
+    column_step P {old} {now} {new} lj d kept w =
+        columns_more s sh (P sh.check_rows) j old now new (let a = h.columns in let b = g.column_part in omega arith) d kept
+        (changed s l (P l.checks) (P sh.check_rows) j (row_symbols s sh) (rows_of sh) now new e.start column_step_is column_len
+        (λ x y. subst (λ n. P n x y) column_checks) w)
+
+    pub fillable_column : (lost : List Bool) (bytes : List ℕ) → Fillable s l.checks lost (on s l bytes) → Fillable s sh.check_rows lost (column s sh bytes j)
+    fillable_column lost bytes f =
+        subst (λ n. Fillable s n lost (column s sh bytes j)) column_checks (subst (λ (x : List ℕ). Fillable s l.checks lost x) (column_on bytes) f)
+
+  -- the line of a column's syndromes, in bytes for as many rows of data as there are check rows
+  module _ {j : ℕ} {l : Line} (e : IsSyndromes g j l) where
+    pub syndromes_within : {m : ℕ} → j < g.data_columns → m ≡ sh.check_rows * sh.data_bytes → Within s l m
+    syndromes_within {m} lj em =
+        let n = data_symbols s sh in
+        let symbols : m * s.per ≡ sh.check_rows * n = ap (λ b. b * s.per) em ∙ mul_assoc sh.check_rows sh.data_bytes s.per in
+        record {
+          few = let a = e.len in let b = g.row_part in let c = h.rows in let d = h.few in omega arith;
+          inside = λ i li.
+              let here : i * n + j < sh.check_rows * n =
+              digits_lt (subst (λ k. i < k) (e.len ∙ h.check_rows) li) (subst (λ k. j < k) h.data_columns lj)
+              in
+              subst (λ k. i * k + l.start < m * s.per) (sym (e.step ∙ h.data_columns))
+              (subst (λ k. i * n + k < m * s.per) (sym e.start) (subst (λ k. i * n + j < k) (sym symbols) here));
         }
 
   -- the syndromes of one column more
-  module _ (bytes old new word part : List ℕ) (j : ℕ) (l : j < z.«data») (ew : word ≡ line s bytes j z.symbols z.rows) (lp : length part ≡ sh.check_rows)
-      (sy : (i : ℕ) → i < length part → get_or part i 0 ≡ syndrome_of s i word) (w : Written s j z.«data» (length part) part old new) where
-    word_is : word ≡ column s sh bytes j
-    word_is = ew ∙ ap₂ (λ a b. line s bytes j a b) h.symbols h.rows
+  module _ (bytes old new word part : List ℕ) {j : ℕ} {c l : Line} (ec : IsColumn g j c) (e : IsSyndromes g j l) (lj : j < g.data_columns) (ew : word ≡ on s c bytes)
+      (lp : length part ≡ l.len) (sy : (i : ℕ) → i < length part → get_or part i 0 ≡ syndrome_of s i word) (w : Written s l l.len part old new) where
+    start : l.start ≡ j
+    start = e.start
+
+    lc : l.len ≡ sh.check_rows
+    lc = e.len ∙ h.check_rows
+
+    is : word ≡ column s sh bytes j
+    is = ew ∙ column_on ec bytes
+
+    at : (i k : ℕ) → i * l.step + k ≡ i * data_symbols s sh + k
+    at i k = ap (λ n. i * n + k) (e.step ∙ h.data_columns)
 
     this : (i : ℕ) → i < sh.check_rows → symbol_at s new (i * data_symbols s sh + j) ≡ syndrome_of s i (column s sh bytes j)
     this i li =
-        ap (λ k. symbol_at s new (i * k + j)) (sym h.data') ∙ w.online i (omega arith) ∙ ap (λ k. k % s.order) (sy i (omega arith))
-        ∙ mod-eq_of_lt (syndrome s i (symbols s word)).small ∙ ap (syndrome_of s i) word_is
+        ap (symbol_at s new) (sym (at i j) ∙ ap (λ n. i * l.step + n) (sym start)) ∙ w.online i (omega arith) ∙ ap (λ k. k % s.order) (sy i (omega arith))
+        ∙ mod-eq_of_lt (syndrome s i (symbols s word)).small ∙ ap (syndrome_of s i) is
 
     pub syndromes_step : ((i k : ℕ) → i < sh.check_rows → k < j → symbol_at s old (i * data_symbols s sh + k) ≡ syndrome_of s i (column s sh bytes k))
         → (i k : ℕ) → i < sh.check_rows → k < j + 1 → symbol_at s new (i * data_symbols s sh + k) ≡ syndrome_of s i (column s sh bytes k)
@@ -121,7 +157,13 @@ module _ (s : System) (sh : Shape) (len : ℕ) (z : Sizes) (h : Sized s sh len z
         go : Dec (k ≡ j) → symbol_at s new (i * data_symbols s sh + k) ≡ syndrome_of s i (column s sh bytes k)
         go (yes e) = subst (λ m. symbol_at s new (i * data_symbols s sh + m) ≡ syndrome_of s i (column s sh bytes m)) (sym e) (this i li)
         go (no ne) =
-            ap (λ m. symbol_at s new (i * m + k)) (sym h.data')
-            ∙ w.offline (i * z.«data» + k)
-            (λ a la e. ne (sym (digits_mod i (let q : k < z.«data» = omega arith in q)) ∙ ap (λ x. x % z.«data») e ∙ digits_mod a l))
-            ∙ ap (λ m. symbol_at s old (i * m + k)) h.data' ∙ before i k li (omega arith)
+            w.offline (i * data_symbols s sh + k) (λ a la e. ne (off a e)) ∙ before i k li (omega arith)
+          where
+            d : data_symbols s sh ≡ g.data_columns
+            d = sym h.data_columns
+
+            off : (a : ℕ) → i * data_symbols s sh + k ≡ a * l.step + l.start → k ≡ j
+            off a e =
+                let same : i * data_symbols s sh + k ≡ a * data_symbols s sh + j = e ∙ ap (λ n. a * l.step + n) start ∙ at a j in
+                sym (digits_mod i (subst (λ n. k < n) (sym d) (let q : k < g.data_columns = omega arith in q))) ∙ ap (λ x. x % data_symbols s sh) same
+                ∙ digits_mod a (subst (λ n. j < n) (sym d) lj)

@@ -9,7 +9,7 @@ use Rattle.code.specs.declared.error.CodeError.{CodeError}
 use Rattle.code.specs.declared.error.CodeError.TheVariants.{UnequalLengths, TooLong, TooFewChecks, TooManyChecks, TooManyUnknown, NoCodeword}
 use Rattle.grid.specs.Packing.{unpacked}
 use Rattle.grid.specs.Grids.{rows_of, data_symbols, column, fitting, RowsFilled}
-use Rattle.grid.specs.Lines.{Fillable}
+use Rattle.grid.specs.Fillable.{Fillable}
 use Rattle.grid.specs.declared.shape.Shape.{Shape}
 
 -- a second test, after a first that passed

@@ -1,5 +1,6 @@
 pub mod Packing
 pub mod Grids
 pub mod Measures
-pub mod Lines
+pub mod Fillable
+pub mod Line
 pub mod Answers

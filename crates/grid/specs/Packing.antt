@@ -1,13 +1,10 @@
 -- The symbols of a byte string: in byte order, the upper part of a byte first.
-use Rattle.std.specs.Prelude.{◌≡◌, ℕ, ◌-◌, ◌*◌, ◌/◌, ◌%◌, ◌^◌, ◌<◌, cond, List, map, length, Ok, Err, Result, ◌==◌, slice_index}
+use Rattle.std.specs.Prelude.{◌≡◌, ℕ, ◌-◌, ◌*◌, ◌/◌, ◌%◌, ◌^◌, cond, List, map, length, Ok, Err, Result, ◌==◌, slice_index}
 use Rattle.std.specs.List.{range_with_len}
+use Rattle.byte_string.specs.Bytes.{Bytes}
 use Rattle.field.specs.Systems.{System}
 use Rattle.code.specs.declared.error.CodeError.{CodeError}
 use Rattle.code.specs.declared.error.CodeError.TheVariants.{UnequalLengths}
-
--- every entry is a byte
-abbrev pub Bytes : List ℕ → Type 0
-Bytes xs = (i : ℕ) → slice_index xs i < 256
 
 module _ (s : System) where
   -- part k of a byte, of its m parts, the upper first

@@ -1,12 +1,12 @@
-// Lines of symbols in a byte string, each symbol so many places after the one before: rows and columns of a grid are such lines.
-// A line is copied to a list, worked on there, and copied back.
+// Lines of symbols in a byte string: rows and columns of a grid are such lines. A line is copied out, worked on there, and
+// copied back.
 ghost use Rattle.std.specs.Prelude.{◌≡◌, ◌*◌, ◌<◌, ◌≤◌, length};
 ghost use Rattle.code.specs.Codewords.{Codeword, Tells, count, symbols as symbols_of};
 ghost use Rattle.code.specs.Filling.{Encoded};
 ghost use Rattle.grid.specs.Answers.{is_corrected, BytesCorrected};
-ghost use Rattle.grid.specs.Grids.{line};
-ghost use Rattle.grid.specs.Lines.{Within, Written, Redone, Fillable, FilledIf};
+ghost use Rattle.grid.specs.Fillable.{Fillable, FilledIf};
 
+use super::LONGEST;
 use super::packing::{set_symbol, symbol_at};
 use code::correct::{Verdict, correct};
 use code::error::CodeError;
@@ -14,119 +14,115 @@ use code::fill::{encode, fill};
 use code::syndrome::is_codeword;
 use field::{Field, NumberSystem};
 
-// Copies a line to `out`.
-pub(crate) fn gather<F: NumberSystem>(bytes: &[u8], start: usize, step: usize, out: &mut [u8])
-    requires { Within F.NumberSystem.system start step (length out.old) (length bytes.now) }
-    ensures { out.new ≡ line F.NumberSystem.system bytes.now start step (length out.old) }
-{
-    for i in 0..out.len() {
-        out[i] = symbol_at::<F>(bytes, i * step + start);
+// So many symbols: the first at place `start`, and each `step` places after the one before. The last `checks` of them are
+// check symbols. A line holds no byte string: that it lies within one is asked where it is written.
+#[derive(Drop)]
+pub(crate) struct Line {
+    pub(crate) start: usize,
+    pub(crate) step: usize,
+    pub(crate) len: usize,
+    pub(crate) checks: usize,
+    ghost near: { start < 65536 },
+    ghost apart: { 0 < step },
+    ghost close: { step < 256 },
+    ghost short: { len < 256 },
+    ghost room: { checks ≤ len },
+}
+
+impl Line {
+    ghost use Rattle.grid.specs.Line.{on, Within, Written, Redone};
+
+    // Copies the line to `out`.
+    pub(crate) fn gather<F: NumberSystem>(&self, bytes: &[u8], out: &mut [u8])
+        requires { length out.old ≡ self.now.len }
+        ensures { out.new ≡ on F.NumberSystem.system self.now bytes.now }
+    {
+        for (i, symbol) in out.iter_mut().enumerate() {
+            *symbol = symbol_at::<F>(bytes, i * self.step + self.start);
+        }
     }
-}
 
-// Copies a list to a line.
-pub(crate) fn scatter<F: NumberSystem>(bytes: &mut [u8], start: usize, step: usize, word: &[u8])
-    requires { Within F.NumberSystem.system start step (length word.now) (length bytes.old) }
-    ensures { Written F.NumberSystem.system start step (length word.now) word.now bytes.old bytes.new }
-{
-    for i in 0..word.len() {
-        set_symbol::<F>(bytes, i * step + start, word[i]);
+    // Copies `word` to the line.
+    pub(crate) fn scatter<F: NumberSystem>(&self, bytes: &mut [u8], word: &[u8])
+        requires long { length word.now ≡ self.now.len }
+        requires within { Within F.NumberSystem.system self.now (length bytes.old) }
+        ensures { Written F.NumberSystem.system self.now self.now.len word.now bytes.old bytes.new }
+    {
+        for (i, symbol) in word.iter().enumerate() {
+            set_symbol::<F>(bytes, i * self.step + self.start, *symbol);
+        }
     }
-}
 
-// Encodes a line, with room for a copy of it.
-pub(crate) fn encode_line<F: Field>(
-    bytes: &mut [u8],
-    start: usize,
-    step: usize,
-    checks: usize,
-    room: &mut [u8],
-)
-    requires within { Within F.NumberSystem.system start step (length room.old) (length bytes.old) }
-    requires fits { (length room.old < F.NumberSystem.system.order) × (checks ≤ length room.old) }
-    ensures { Redone F.NumberSystem.system start step (length room.old) (Encoded F.NumberSystem.system checks) bytes.old bytes.new }
-{
-    gather::<F>(bytes, start, step, room);
-    let _ = encode::<F>(room, checks);
-    scatter::<F>(bytes, start, step, room);
-}
+    // Encoding and filling differ in a step on the copy, and so do the two tests. A function that takes the step as a closure has
+    // more lines of contract than it spares here, and its proof does not close.
 
-// Whether a line is a codeword, with room for a copy of it.
-pub(crate) fn line_is_codeword<F: NumberSystem>(
-    bytes: &[u8],
-    start: usize,
-    step: usize,
-    checks: usize,
-    room: &mut [u8],
-) -> bool
-    requires { Within F.NumberSystem.system start step (length room.old) (length bytes.now) }
-    ensures { Tells result (Codeword F.NumberSystem.system checks (symbols_of F.NumberSystem.system (line F.NumberSystem.system bytes.now start step (length room.old)))) }
-{
-    gather::<F>(bytes, start, step, room);
-    is_codeword::<F>(room, checks)
-}
+    // Encodes the line.
+    pub(crate) fn encode<F: Field>(&self, bytes: &mut [u8])
+        requires { Within F.NumberSystem.system self.now (length bytes.old) }
+        ensures { Redone F.NumberSystem.system self.now (Encoded F.NumberSystem.system self.now.checks) bytes.old bytes.new }
+    {
+        let mut room = [0u8; LONGEST];
+        let word = &mut room[..self.len];
+        self.gather::<F>(bytes, word);
+        let _ = encode::<F>(word, self.checks);
+        self.scatter::<F>(bytes, word);
+    }
 
-// Whether the unknown symbols of a line can be filled, with room for a copy of it.
-pub(crate) fn line_is_fillable<F: Field>(
-    bytes: &[u8],
-    start: usize,
-    step: usize,
-    unknown: &[bool],
-    checks: usize,
-    room: &mut [u8],
-) -> bool
-    requires within { Within F.NumberSystem.system start step (length room.old) (length bytes.now) }
-    requires fits { (length room.old < F.NumberSystem.system.order) × (checks ≤ length room.old) }
-    requires marks { (length unknown.now ≡ length room.old) × (count unknown.now ≤ checks) }
-    ensures { Tells result (Fillable F.NumberSystem.system checks unknown.now (line F.NumberSystem.system bytes.now start step (length room.old))) }
-{
-    gather::<F>(bytes, start, step, room);
-    fill::<F>(room, unknown, checks).is_ok()
-}
+    // Whether the line is a codeword.
+    pub(crate) fn is_codeword<F: NumberSystem>(&self, bytes: &[u8]) -> bool
+        ensures { Tells result (Codeword F.NumberSystem.system self.now.checks (symbols_of F.NumberSystem.system (on F.NumberSystem.system self.now bytes.now))) }
+    {
+        let mut room = [0u8; LONGEST];
+        let word = &mut room[..self.len];
+        self.gather::<F>(bytes, word);
+        is_codeword::<F>(word, self.checks)
+    }
 
-// Fills the unknown symbols of a line that can be filled, with room for a copy of it.
-pub(crate) fn fill_line<F: Field>(
-    bytes: &mut [u8],
-    start: usize,
-    step: usize,
-    unknown: &[bool],
-    checks: usize,
-    room: &mut [u8],
-)
-    requires within { Within F.NumberSystem.system start step (length room.old) (length bytes.old) }
-    requires fits { (length room.old < F.NumberSystem.system.order) × (checks ≤ length room.old) }
-    requires marks { (length unknown.now ≡ length room.old) × (count unknown.now ≤ checks) }
-    ensures { Redone F.NumberSystem.system start step (length room.old) (FilledIf F.NumberSystem.system checks unknown.now) bytes.old bytes.new }
-{
-    gather::<F>(bytes, start, step, room);
-    let _ = fill::<F>(room, unknown, checks);
-    scatter::<F>(bytes, start, step, room);
+    // Whether the unknown symbols of the line can be filled.
+    pub(crate) fn is_fillable<F: Field>(&self, bytes: &[u8], unknown: &[bool]) -> bool
+        requires few { self.now.len < F.NumberSystem.system.order }
+        requires marks { (length unknown.now ≡ self.now.len) × (count unknown.now ≤ self.now.checks) }
+        ensures { Tells result (Fillable F.NumberSystem.system self.now.checks unknown.now (on F.NumberSystem.system self.now bytes.now)) }
+    {
+        let mut room = [0u8; LONGEST];
+        let word = &mut room[..self.len];
+        self.gather::<F>(bytes, word);
+        fill::<F>(word, unknown, self.checks).is_ok()
+    }
+
+    // Fills the unknown symbols of the line, where they can be filled.
+    pub(crate) fn fill<F: Field>(&self, bytes: &mut [u8], unknown: &[bool])
+        requires within { Within F.NumberSystem.system self.now (length bytes.old) }
+        requires marks { (length unknown.now ≡ self.now.len) × (count unknown.now ≤ self.now.checks) }
+        ensures { Redone F.NumberSystem.system self.now (FilledIf F.NumberSystem.system self.now.checks unknown.now) bytes.old bytes.new }
+    {
+        let mut room = [0u8; LONGEST];
+        let word = &mut room[..self.len];
+        self.gather::<F>(bytes, word);
+        let _ = fill::<F>(word, unknown, self.checks);
+        self.scatter::<F>(bytes, word);
+    }
+
+    // Corrects one symbol of the line, which is the whole byte string.
+    pub(crate) fn correct<F: Field>(&self, bytes: &mut [u8]) -> Result<Verdict, CodeError>
+        requires within { Within F.NumberSystem.system self.now (length bytes.old) }
+        requires whole { (self.now.start ≡ 0) × (self.now.step ≡ 1) × (self.now.len ≡ length bytes.old * F.NumberSystem.system.per) }
+        ensures { BytesCorrected F.NumberSystem.system self.now.checks bytes.old bytes.new result }
+    {
+        let mut room = [0u8; LONGEST];
+        let word = &mut room[..self.len];
+        self.gather::<F>(bytes, word);
+        let verdict = correct::<F>(word, self.checks);
+        if is_corrected(&verdict) {
+            self.scatter::<F>(bytes, word);
+        }
+        verdict
+    }
 }
 
 // Whether a symbol was corrected.
 fn is_corrected(verdict: &Result<Verdict, CodeError>) -> bool
     ensures { result ≡ is_corrected verdict.now }
 {
-    match verdict {
-        Ok(Verdict::Corrected(_)) => true,
-        _ => false,
-    }
-}
-
-// Corrects one symbol of a whole byte string, with room for a copy of its symbols.
-pub(crate) fn correct_line<F: Field>(
-    bytes: &mut [u8],
-    checks: usize,
-    room: &mut [u8],
-) -> Result<Verdict, CodeError>
-    requires within { Within F.NumberSystem.system 0 1 (length room.old) (length bytes.old) }
-    requires whole { length room.old ≡ length bytes.old * F.NumberSystem.system.per }
-    ensures { BytesCorrected F.NumberSystem.system checks bytes.old bytes.new result }
-{
-    gather::<F>(bytes, 0, 1, room);
-    let verdict = correct::<F>(room, checks);
-    if is_corrected(&verdict) {
-        scatter::<F>(bytes, 0, 1, room);
-    }
-    verdict
+    matches!(verdict, Ok(Verdict::Corrected(_)))
 }

@@ -1,6 +1,7 @@
 // Symbols in bytes: m of them in each, the upper part of a byte first.
 ghost use Rattle.std.specs.Prelude.{◌≡◌, ℕ, ◌-◌, ◌*◌, ◌%◌, ◌^◌, ◌<◌, List, map, length, MatchResult, ◌==◌, ◌≢◌};
-ghost use Rattle.grid.specs.Packing.{Bytes, part, symbol_at, unpacked, length_reply, SymbolsTellBytes};
+ghost use Rattle.byte_string.specs.Bytes.{Bytes};
+ghost use Rattle.grid.specs.Packing.{part, symbol_at, unpacked, length_reply, SymbolsTellBytes};
 
 use code::error::CodeError;
 use field::NumberSystem;
@@ -10,12 +11,7 @@ fn weight<F: NumberSystem>(k: usize) -> u16
     requires { k < F.NumberSystem.system.per }
     ensures { result ≡ F.NumberSystem.system.order ^ (F.NumberSystem.system.per - 1 - k) }
 {
-    let q = F::order();
-    let mut w = 1;
-    for _i in 0..F::symbols_per_byte() - 1 - k {
-        w *= q;
-    }
-    w
+    F::Q.pow((F::PER_BYTE - 1 - k) as u32) // `as` here and below: the number fits, and `try_from` would want an answer that never comes
 }
 
 // Part `k` of a byte.
@@ -23,7 +19,7 @@ fn part_of<F: NumberSystem>(b: u8, k: usize) -> u8
     requires { k < F.NumberSystem.system.per }
     ensures { result ≡ part F.NumberSystem.system b k }
 {
-    (b as u16 / weight::<F>(k) % F::order()) as u8
+    (u16::from(b) / weight::<F>(k) % F::Q) as u8
 }
 
 // The byte with `v` for its part `k`.
@@ -32,22 +28,21 @@ fn replace_part<F: NumberSystem>(b: u8, k: usize, v: u8) -> u8
     ensures this { part F.NumberSystem.system result k ≡ v % F.NumberSystem.system.order }
     ensures others { (j : ℕ) → j < F.NumberSystem.system.per → (j ≢ k) → part F.NumberSystem.system result j ≡ part F.NumberSystem.system b j }
 {
-    let q = F::order();
+    let q = F::Q;
     let w = weight::<F>(k);
-    let above = b as u16 / (w * q) * (w * q);
-    (above + v as u16 % q * w + b as u16 % w) as u8
+    let b = u16::from(b);
+    let v = u16::from(v) % q;
+    (b / (w * q) * (w * q) + v * w + b % w) as u8
 }
 
 /// Symbol `p` of a byte string, and 0 past its end.
 pub fn symbol_at<F: NumberSystem>(bytes: &[u8], p: usize) -> u8
     ensures { result ≡ symbol_at F.NumberSystem.system bytes.now p }
 {
-    let m = F::symbols_per_byte();
-    let i = p / m;
-    if i < bytes.len() {
-        part_of::<F>(bytes[i], p % m)
-    } else {
-        0
+    let m = F::PER_BYTE;
+    match bytes.get(p / m) {
+        Some(b) => part_of::<F>(*b, p % m),
+        None => 0,
     }
 }
 
@@ -57,27 +52,16 @@ pub(crate) fn set_symbol<F: NumberSystem>(bytes: &mut [u8], p: usize, v: u8)
     ensures this { symbol_at F.NumberSystem.system bytes.new p ≡ v % F.NumberSystem.system.order }
     ensures others { (i : ℕ) → (i ≢ p) → symbol_at F.NumberSystem.system bytes.new i ≡ symbol_at F.NumberSystem.system bytes.old i }
 {
-    let m = F::symbols_per_byte();
-    let i = p / m;
-    bytes[i] = replace_part::<F>(bytes[i], p % m, v);
-}
-
-// Says that what a slice of bytes holds is below 256. It computes nothing.
-fn are_bytes(bytes: &[u8])
-    ensures { Bytes bytes.now }
-{
-    let _ = bytes.first();
+    let m = F::PER_BYTE;
+    let byte = &mut bytes[p / m];
+    *byte = replace_part::<F>(*byte, p % m, v);
 }
 
 // Whether there are m symbols for each byte.
 fn go_together<F: NumberSystem>(symbols: usize, bytes: usize) -> bool
     ensures { result ≡ (symbols == bytes * F.NumberSystem.system.per) }
 {
-    let m = F::symbols_per_byte();
-    if symbols % m != 0 {
-        return false;
-    }
-    symbols / m == bytes
+    bytes.checked_mul(F::PER_BYTE) == Some(symbols)
 }
 
 /// Writes the symbols of the bytes to `symbols`, which has m places for each byte.
@@ -88,8 +72,8 @@ pub fn unpack<F: NumberSystem>(bytes: &[u8], symbols: &mut [u8]) -> Result<(), C
     if !go_together::<F>(symbols.len(), bytes.len()) {
         return Err(CodeError::UnequalLengths);
     }
-    for p in 0..symbols.len() {
-        symbols[p] = symbol_at::<F>(bytes, p);
+    for (p, symbol) in symbols.iter_mut().enumerate() {
+        *symbol = symbol_at::<F>(bytes, p);
     }
     Ok(())
 }
@@ -103,10 +87,9 @@ pub fn pack<F: NumberSystem>(symbols: &[u8], bytes: &mut [u8]) -> Result<(), Cod
     if !go_together::<F>(symbols.len(), bytes.len()) {
         return Err(CodeError::UnequalLengths);
     }
-    for p in 0..symbols.len() {
-        set_symbol::<F>(bytes, p, symbols[p]);
+    for (p, symbol) in symbols.iter().enumerate() {
+        set_symbol::<F>(bytes, p, *symbol);
     }
-    are_bytes(bytes);
     Ok(())
 }
 

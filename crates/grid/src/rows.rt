@@ -3,8 +3,7 @@ ghost use Rattle.std.specs.Prelude.{◌≡◌, length, MatchResult};
 ghost use Rattle.grid.specs.Grids.{fitting, RowsEncoded, RowsJudged};
 ghost use Rattle.grid.specs.Answers.{flags_reply, RowCorrection};
 
-use super::LONGEST;
-use super::lines::{correct_line, encode_line, line_is_codeword};
+use super::lines::Line;
 use super::shape::Shape;
 use code::correct::Verdict;
 use code::error::CodeError;
@@ -15,13 +14,9 @@ pub fn encode_rows<F: Field>(shape: &Shape, bytes: &mut [u8]) -> Result<(), Code
     ensures reply { result ≡ fitting F.NumberSystem.system shape.now (length bytes.old) }
     ensures after { MatchResult result (λ _. RowsEncoded F.NumberSystem.system shape.now bytes.old bytes.new) (λ _. bytes.new ≡ bytes.old) }
 {
-    let sizes = shape.measure::<F>(bytes.len())?;
-    let n = sizes.symbols;
-    let rows = sizes.rows;
-    let mut room = [0u8; LONGEST];
-    let word = &mut room[0..n];
-    for r in 0..rows {
-        encode_line::<F>(bytes, r * n, 1, sizes.checks, word);
+    let grid = shape.measure::<F>(bytes.len())?;
+    for r in 0..grid.rows {
+        grid.row(r).encode::<F>(bytes);
     }
     Ok(())
 }
@@ -35,15 +30,12 @@ pub fn codeword_rows<F: NumberSystem>(
     ensures reply { result ≡ flags_reply F.NumberSystem.system shape.now (length bytes.now) (length flags.old) }
     ensures after { MatchResult result (λ _. RowsJudged F.NumberSystem.system shape.now bytes.now flags.new) (λ _. flags.new ≡ flags.old) }
 {
-    let sizes = shape.measure::<F>(bytes.len())?;
-    if flags.len() != sizes.rows {
+    let grid = shape.measure::<F>(bytes.len())?;
+    if flags.len() != grid.rows {
         return Err(CodeError::UnequalLengths);
     }
-    let n = sizes.symbols;
-    let mut room = [0u8; LONGEST];
-    let word = &mut room[0..n];
-    for r in 0..flags.len() {
-        flags[r] = line_is_codeword::<F>(bytes, r * n, 1, sizes.checks, word);
+    for (r, flag) in flags.iter_mut().enumerate() {
+        *flag = grid.row(r).is_codeword::<F>(bytes);
     }
     Ok(())
 }
@@ -52,14 +44,18 @@ pub fn codeword_rows<F: NumberSystem>(
 pub fn correct_row<F: Field>(row: &mut [u8], check_bytes: usize) -> Result<Verdict, CodeError>
     ensures { RowCorrection F.NumberSystem.system check_bytes row.old row.new result }
 {
-    let m = F::symbols_per_byte();
+    let m = F::PER_BYTE;
     if check_bytes > row.len() {
         return Err(CodeError::TooManyChecks);
     }
-    if row.len() > (F::order() as usize - 1) / m {
+    if row.len() > (usize::from(F::Q) - 1) / m {
         return Err(CodeError::TooLong);
     }
-    let n = row.len() * m;
-    let mut room = [0u8; LONGEST];
-    correct_line::<F>(row, check_bytes * m, &mut room[0..n])
+    let line = Line {
+        start: 0,
+        step: 1,
+        len: row.len() * m,
+        checks: check_bytes * m,
+    };
+    line.correct::<F>(row)
 }

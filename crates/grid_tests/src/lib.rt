@@ -26,15 +26,16 @@ mod tests {
 
     // One row of 5 data bytes, with its 2 check bytes.
     fn coded<F: Field>(data: [u8; 5]) -> Result<[u8; 7], CodeError> {
-        let mut row = [data[0], data[1], data[2], data[3], data[4], 0, 0];
+        let mut row = [0; 7];
+        row[..5].copy_from_slice(&data);
         encode_rows::<F>(&shape(1, 0, 5, 2), &mut row)?;
         Ok(row)
     }
 
     // Writes 0, 1, 2 and so on, and 0 again after 250.
     fn count_up(bytes: &mut [u8]) {
-        for i in 0..bytes.len() {
-            bytes[i] = (i % 251) as u8;
+        for (i, byte) in bytes.iter_mut().enumerate() {
+            *byte = (i % 251) as u8;
         }
     }
 
@@ -49,9 +50,9 @@ mod tests {
 
     // Overwrites the marked rows of such a grid.
     fn spoil(grid: &mut [u8; 1190], lost: &[bool; 14]) {
-        for i in 0..grid.len() {
-            if lost[i / 85] {
-                grid[i] = 0xA5;
+        for (row, &is_lost) in grid.chunks_mut(85).zip(lost) {
+            if is_lost {
+                row.fill(0xA5);
             }
         }
     }

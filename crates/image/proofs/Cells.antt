@@ -1,15 +1,17 @@
 -- Cells of n bytes in memory: where they lie, and what another cell's bytes leave of them.
-use Rattle.std.proofs.Common.{◌≡◌, ℕ, ◌+◌, ◌-◌, ◌*◌, ◌/◌, ◌<◌, ◌≤◌, min, true, false, eqb, ◌≢◌, List, [], ◌∷◌, ◌++◌, length, get_or, take, drop, set, Some, None, Option, sym, refl, ap, ◌∙◌, subst, ⊎_elim, mul-le-mul_right, add-mul, one-mul, le-div_iff_mul-le, arith, rules}
+use Rattle.std.proofs.Common.{◌≡◌, ℕ, ◌+◌, ◌-◌, ◌*◌, ◌/◌, ◌<◌, ◌≤◌, min, true, false, eqb, ◌≢◌, List, ◌++◌, length, get_or, take, drop, Some, None, Option, sym, refl, ap, ◌∙◌, subst, ⊎_elim, mul-le-mul_right, add-mul, one-mul, le-div_iff_mul-le, arith, rules}
 use borrow.Rule.Slice.PartMut.{put_mid}
-use Rattle.std.proofs.lemmas.List.{drop-take, drop-drop, drop_all, append-nil, places, length-drop, length-take-le}
+use Rattle.std.proofs.lemmas.List.{drop-take, drop-drop, places, length-drop, length-take-le}
 use Rattle.std.proofs.lemmas.Slice.{take-put_mid_below, drop-put_mid, between-put_mid}
-use Rattle.std.proofs.lemmas.Bool.{cases_order, cases_Bool, lt-ltb, eq-eqb}
-use Rattle.store.specs.Store.{Sound, Bytes, with_at, listed, good_width}
-use Rattle.store.proofs.Bytes.{bytes_drop, bytes_take}
+use Rattle.std.proofs.lemmas.Bool.{cases_order, cases_Bool}
+use Rattle.std.specs.declared.ops.Range.{Range}
+use Rattle.byte_string.specs.Bytes.{Bytes}
+use Rattle.store.specs.Store.{Sound, with_at, listed, good_width}
+use Rattle.byte_string.proofs.Bytes.{bytes_drop, bytes_take}
 use Rattle.store.proofs.Listed.{get_or_listed, listed_set, listed_sound}
 use Rattle.store.proofs.Widths.{width_within}
-use Rattle.image.specs.Cells.{block_of, marked, unmarked}
-use Rattle.image.specs.Image.{places_in, cell_at, with_cell, block_at, image_store, Cell, memory_put, memory_clear}
+use Rattle.image.specs.Cells.{block_of, unmarked}
+use Rattle.image.specs.Image.{places_in, cell_at, with_cell, block_at, image_store, Cell}
 
 row_end : (k n p : ℕ) → k < p → k * n + n ≤ p * n
 row_end k n p h = let e = mul-le-mul_right {m = k + 1} {n = p} n (omega arith) in omega (arith, e, add-mul k 1 n, one-mul n)
@@ -27,9 +29,10 @@ good_width_lem len w k h =
     (λ (t : good_width w ≡ false). let q : k < 0 = simp t at h in absurd (omega arith))
     (cases_Bool (good_width w))
 
-pub cell_lies : (len w k : ℕ) → k < places_in len w → Cell len w k (k * (w + 2))
-cell_lies len w k h =
-    record { there = h; starts = refl; within = within_div k (w + 2) len (omega arith) (good_width_lem len w k h).2 }
+pub cell_lies : (len w k : ℕ) (r : Range ℕ) → k < places_in len w → r.start ≡ k * (w + 2) → r.end ≡ r.start + (w + 2) → Cell len w k r
+cell_lies len w k r h es ee =
+    let e = within_div k (w + 2) len (omega arith) (good_width_lem len w k h).2 in
+    record { there = h; starts = es; ends = ee; within = omega arith }
 
 -- the bytes of a cell, in the form in which a write to a part of a slice leaves them
 pub part_is_cell : (n : ℕ) (memory cell : List ℕ) (place start k : ℕ) → start ≡ place * n → k ≡ n
@@ -69,13 +72,14 @@ cell_other n memory cell place k h l ne =
     (cases_order k place)
 
 -- other bytes in one cell are another content at its place
-pub store_with_cell : (w : ℕ) (memory cell : List ℕ) (place start : ℕ) (o : Option (List ℕ)) → Cell (length memory) w place start
+pub store_with_cell : (w : ℕ) (memory cell : List ℕ) (place : ℕ) (r : Range ℕ) (o : Option (List ℕ)) → Cell (length memory) w place r
     → length cell ≡ w + 2 → block_of cell ≡ o
     → image_store w (with_cell (w + 2) memory place cell) ≡ with_at (image_store w memory) place o
-store_with_cell w memory cell place start o at l eo =
+store_with_cell w memory cell place r o at l eo =
     let n = w + 2 in
     let p = places_in (length memory) w in
     let starts = at.starts in
+    let ends = at.ends in
     let within = at.within in
     let h : place * n + n ≤ length memory = omega arith in
     let new = with_cell n memory place cell in
@@ -85,24 +89,11 @@ store_with_cell w memory cell place start o at l eo =
     (listed_set p (block_at n memory) (block_at n new) place o at.there (ap block_of (cell_same n memory cell place h l) ∙ eo)
     (λ k _ ne. ap block_of (cell_other n memory cell place k h l ne)))
 
-pub block_of_cell : (w : ℕ) (memory : List ℕ) (place start k : ℕ) → Cell (length memory) w place start → k ≡ w + 2
-    → get_or (image_store w memory).contents place None ≡ block_of (take k (drop start memory))
-block_of_cell w memory place start k at ek =
+pub block_of_cell : (w : ℕ) (memory : List ℕ) (place k : ℕ) (r : Range ℕ) → Cell (length memory) w place r → k ≡ w + 2
+    → get_or (image_store w memory).contents place None ≡ block_of (take k (drop r.start memory))
+block_of_cell w memory place k r at ek =
     get_or_listed (places_in (length memory) w) (block_at (w + 2) memory) place at.there
-    ∙ ap block_of (sym (part_of_cell (w + 2) memory place start k at.starts ek))
-
-pub block_here : (cell : List ℕ) → get_or cell 0 0 ≡ 1 → get_or cell 1 0 ≡ 0 → block_of cell ≡ Some (drop 2 cell)
-block_here cell e f = simp (e, f)
-
-pub no_block : (cell : List ℕ) → block_of (unmarked cell) ≡ None
-no_block cell = refl
-
-pub written : (cell block ys : List ℕ) (k : ℕ) → length cell ≡ length block + 2 → ys ≡ block → k ≡ length cell - 2
-    → put_mid 2 k (set (set cell 0 1) 1 0) ys ≡ marked block
-written [] block ys k h e f = absurd (omega arith)
-written (a ∷ []) block ys k h e f = absurd (omega arith)
-written (a ∷ b ∷ rest) block ys k h e f =
-    ap (λ (t : List ℕ). 1 ∷ 0 ∷ t) (ap (λ (t : List ℕ). ys ++ t) (drop_all k rest (omega arith)) ∙ append-nil ys ∙ e)
+    ∙ ap block_of (sym (part_of_cell (w + 2) memory place r.start k at.starts ek))
 
 block_is : (cell b : List ℕ) → block_of cell ≡ Some b → b ≡ drop 2 cell
 block_is cell b e =
@@ -115,26 +106,18 @@ block_is cell b e =
     (λ (x : eqb (get_or cell 0 0) 1 ≡ false). let f : None ≡ Some b = simp x at e in let z : ◌≡◌ {A = ℕ} 0 1 = cc in absurd (omega arith))
     (cases_Bool (eqb (get_or cell 0 0) 1))
 
-length_cell : (w : ℕ) (memory : List ℕ) (place start : ℕ) → Cell (length memory) w place start → length (cell_at (w + 2) memory place) ≡ w + 2
-length_cell w memory place start at =
+length_cell : (w : ℕ) (memory : List ℕ) (place : ℕ) (r : Range ℕ) → Cell (length memory) w place r → length (cell_at (w + 2) memory place) ≡ w + 2
+length_cell w memory place r at =
     let n = w + 2 in
     let starts = at.starts in
+    let ends = at.ends in
     let within = at.within in
     length-take-le n (drop (place * n) memory) (omega (arith, length-drop (place * n) memory))
 
-pub length_unmarked : (w : ℕ) (memory : List ℕ) (place start : ℕ) → Cell (length memory) w place start
+pub length_unmarked : (w : ℕ) (memory : List ℕ) (place : ℕ) (r : Range ℕ) → Cell (length memory) w place r
     → length (unmarked (cell_at (w + 2) memory place)) ≡ w + 2
-length_unmarked w memory place start at =
-    let cell = cell_at (w + 2) memory place in omega (arith, length_cell w memory place start at, length-drop 2 cell)
-
-pub memory_put_lem : (w : ℕ) (memory : List ℕ) (place : ℕ) (block : List ℕ) → place < places_in (length memory) w → length block ≡ w
-    → with_cell (w + 2) memory place (marked block) ≡ memory_put w memory place block
-memory_put_lem w memory place block lt wide =
-    let x = lt-ltb place (places_in (length memory) w) lt in let y = eq-eqb (length block) w wide in simp (x, y)
-
-pub memory_clear_lem : (w : ℕ) (memory : List ℕ) (place : ℕ) → place < places_in (length memory) w
-    → with_cell (w + 2) memory place (unmarked (cell_at (w + 2) memory place)) ≡ memory_clear w memory place
-memory_clear_lem w memory place lt = let x = lt-ltb place (places_in (length memory) w) lt in simp x
+length_unmarked w memory place r at =
+    let cell = cell_at (w + 2) memory place in omega (arith, length_cell w memory place r at, length-drop 2 cell)
 
 pub image_sound : (w : ℕ) (memory : List ℕ) → Bytes memory → Sound (image_store w memory)
 image_sound w memory bytes =
@@ -143,7 +126,7 @@ image_sound w memory bytes =
     (λ k b lt e.
     let cell = cell_at n memory k in
     let is = block_is cell b e in
-    let l = length_cell w memory k (k * n) (cell_lies (length memory) w k lt) in (
+    let l = length_cell w memory k (record { start = k * n; end = k * n + n }) (cell_lies (length memory) w k _ lt refl refl) in (
       omega (arith, ap length is, length-drop 2 cell),
       let P : List ℕ → Type 0 = λ x. Bytes x in subst P (sym is) (bytes_drop 2 cell (bytes_take n (drop (k * n) memory) (bytes_drop (k * n) memory bytes))),
     ))

@@ -1,6 +1,7 @@
 -- Memory as a row of cells, and the store that it is.
 use Rattle.std.specs.Prelude.{◌≡◌, ℕ, ◌+◌, ◌*◌, ◌/◌, ◌<◌, ◌≤◌, min, cond, List, ◌++◌, length, take, drop, Option, ◌==◌, nat_lt}
 use Rattle.store.specs.Store.{Store, listed, good_width}
+use Rattle.std.specs.declared.ops.Range.{Range}
 use Rattle.image.specs.Cells.{block_of, marked, unmarked}
 
 -- the whole cells of some bytes, at most 169; none where the width is not 1 to 88
@@ -36,7 +37,8 @@ memory_clear width memory place =
     cond (nat_lt place (places_in (length memory) width)) (with_cell (width + 2) memory place (unmarked (cell_at (width + 2) memory place))) memory
 
 -- the cell of a place lies in the memory
-pub record Cell (len width place start : ℕ) : Type 0 where
+pub record Cell (len width place : ℕ) (cell : Range ℕ) : Type 0 where
   pub there : place < places_in len width
-  pub starts : start ≡ place * (width + 2)
-  pub within : start + (width + 2) ≤ len
+  pub starts : cell.start ≡ place * (width + 2)
+  pub ends : cell.end ≡ cell.start + (width + 2)
+  pub within : cell.end ≤ len

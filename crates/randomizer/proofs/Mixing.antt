@@ -4,7 +4,7 @@ use lib.Bits.{bit_xor, xor_assoc, xor_self, xor_zero_r, xor_lt}
 use Rattle.std.proofs.lemmas.List.FromFn.{length-map-range_with_len, get_or-map-range_with_len}
 use Rattle.std.proofs.lemmas.List.{ext_get_or, get_or_past}
 use Rattle.std.proofs.lemmas.Bool.{cases_lt}
-use Rattle.store.specs.Store.{Bytes}
+use Rattle.byte_string.specs.Bytes.{Bytes}
 use Rattle.randomizer.specs.Sequence.{mixed}
 
 pub length_mixed : (q b : List ℕ) → length (mixed q b) ≡ length b

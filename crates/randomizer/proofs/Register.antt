@@ -1,7 +1,11 @@
 -- The register's moves, and the bits and bytes of the sequence.
-use Rattle.std.proofs.Common.{◌≡◌, ℕ, zero, suc, ◌+◌, ◌-◌, ◌*◌, ◌/◌, ◌%◌, ◌^◌, ◌<◌, ◌≤◌, Bool, true, ◌&&◌, eqb, sym, refl, ap, ◌∙◌, ⊎_elim, add-zero, add-suc, pow-suc, arith}
-use Rattle.std.proofs.lemmas.Bool.{and_parts, cases_eq, eqb-true}
-use Rattle.randomizer.specs.Sequence.{moved, after, packed, bit_at, byte_at}
+use Rattle.std.proofs.Common.{◌≡◌, ℕ, zero, suc, ◌+◌, ◌-◌, ◌*◌, ◌/◌, ◌%◌, ◌^◌, ◌<◌, ◌≤◌, Bool, true, ◌&&◌, eqb, map, sym, refl, ap, ◌∙◌, ⊎_elim, add-zero, add-suc, pow-suc, arith}
+use Rattle.std.proofs.lemmas.Bool.{and_parts, cases_eq, cases_lt, eqb-true}
+use Rattle.std.specs.List.{range_with_len}
+use Rattle.std.proofs.lemmas.List.{get_or_past}
+use Rattle.std.proofs.lemmas.List.FromFn.{length-map-range_with_len, get_or-map-range_with_len}
+use Rattle.byte_string.specs.Bytes.{Bytes}
+use Rattle.randomizer.specs.Sequence.{moved, after, packed, bit_at, byte_at, sequence_of}
 
 pub after_none : (x : ℕ) → after x 0 ≡ x
 unfolding after
@@ -86,3 +90,13 @@ bit_small x t h = let a = after_small x t h in omega arith
 pub byte_from : (p j : ℕ) → packed (λ i. after (after (p % 128) (8 * j)) i / 64) 8 ≡ byte_at p j
 byte_from p j =
     packed_same (λ i. after (after (p % 128) (8 * j)) i / 64) (λ i. bit_at p (8 * j + i)) 8 (λ i. ap (λ z. z / 64) (after_add (p % 128) (8 * j) i))
+
+pub sequence_bytes : (p : ℕ) → Bytes (sequence_of p)
+unfolding sequence_of
+sequence_bytes p j =
+    ⊎_elim
+    (λ (lt : j < 88).
+    let e = get_or-map-range_with_len (byte_at p) 0 88 j j 0 lt (omega arith) in
+    let m = packed_small (λ i. bit_at p (8 * j + i)) 8 (λ i. bit_small (p % 128) (8 * j + i) (omega arith)) in omega arith)
+    (λ (ge : 88 ≤ j). let e = get_or_past (map (byte_at p) (range_with_len 0 88)) j 0 (omega (arith, length-map-range_with_len (byte_at p) 0 88)) in omega arith)
+    (cases_lt j 88)

@@ -1,15 +1,17 @@
-// A block store over another one, which it holds by value: the store below holds each block byte by byte under a fixed sequence of bytes, and a get gives the plain block.
-// The sequence comes from a preset of seven bits, by the recurrence s(t + 7) = (s(t + 3) + s(t)) mod 2, and begins anew with each block.
+// A block store over another one, which it holds by value: the store below holds each block byte by
+// byte under a fixed sequence of bytes, and a get gives the plain block. The sequence comes from a
+// preset of seven bits, by the recurrence s(t + 7) = (s(t + 3) + s(t)) mod 2, and begins anew with
+// each block.
 #![tactic(auto)]
 
 mod sequence;
 
-ghost use Rattle.std.specs.Prelude.{◌≡◌, if◌then◌else◌};
-ghost use Rattle.store.specs.Store.{Bytes};
+ghost use Rattle.std.specs.Prelude.{◌≡◌};
 ghost use Rattle.randomizer.specs.Sequence.{sequence_of};
 ghost use Rattle.randomizer.specs.Plain.{good_preset, plain_store};
 
 pub use sequence::{randomize, sequence_of};
+use std::marker::Model;
 use store::{BlockStore, MOST_WIDTH, StoreRefusal};
 
 /// The store below with plain blocks; a preset that is not 1 to 127 gives no places.
@@ -17,29 +19,34 @@ use store::{BlockStore, MOST_WIDTH, StoreRefusal};
 pub struct Randomizer<S> {
     inner: S,
     preset: u8,
-    sequence: [u8; 88],
+    sequence: [u8; MOST_WIDTH],
+}
+
+// Callers see the store below and the preset, which tells the sequence.
+impl<S> Model for Randomizer<S> {
+    ghost use Rattle.std.specs.Prelude.{◌≡◌};
+    ghost use Rattle.randomizer.specs.Sequence.{sequence_of};
+    ghost use Rattle.randomizer.specs.RandomizerView.{RandomizerView};
+
+    ghost Value = { RandomizerView S };
+
+    ghost view = { λ r. record { inner = r.inner; preset = r.preset } };
+
+    ghost invariant = { λ r. r.sequence ≡ sequence_of r.preset };
 }
 
 // Whether `preset` has a sequence.
 fn is_preset(preset: u8) -> bool
     ensures { result ≡ good_preset preset }
 {
-    1 <= preset && preset <= 127
-}
-
-// `places`, or none where `preset` has no sequence; the entries of a sequence are bytes.
-fn places_under(places: usize, preset: u8, sequence: &[u8]) -> usize
-    ensures places { result ≡ (if good_preset preset then places else 0) }
-    ensures bytes { Bytes sequence.now }
-{
-    if is_preset(preset) { places } else { 0 }
+    (1..=127).contains(&preset)
 }
 
 impl<S: BlockStore> Randomizer<S> {
     /// The plain blocks of `inner`, under the sequence of `preset`.
     pub fn new(inner: S, preset: u8) -> Randomizer<S>
-        ensures fields { (result.inner ≡ inner) × (result.preset ≡ preset) × (result.sequence ≡ sequence_of preset) }
-        ensures store { plain_store (good_preset result.preset) result.sequence (S.BlockStore.store result.inner) ≡ plain_store (good_preset preset) (sequence_of preset) (S.BlockStore.store inner) }
+        ensures fields { (result.inner ≡ inner) × (result.preset ≡ preset) }
+        ensures store { plain_store (good_preset result.preset) (sequence_of result.preset) (S.BlockStore.store result.inner) ≡ plain_store (good_preset preset) (sequence_of preset) (S.BlockStore.store inner) }
     {
         let sequence = sequence_of(preset);
         Randomizer {
@@ -53,20 +60,21 @@ impl<S: BlockStore> Randomizer<S> {
     pub fn into_inner(self) -> S
         ensures { result ≡ self.inner }
     {
-        let Randomizer {
-            inner,
-            preset: _,
-            sequence: _,
-        } = self;
+        let Randomizer { inner, .. } = self;
         inner
     }
 }
 
+// Each call tests for itself: of a test shared through the trait its proof learns nothing.
 impl<S: BlockStore> BlockStore for Randomizer<S> {
-    ghost store = { λ s. plain_store (good_preset s.preset) s.sequence (S.BlockStore.store s.inner) };
+    ghost store = { λ s. plain_store (good_preset s.preset) (sequence_of s.preset) (S.BlockStore.store s.inner) };
 
     fn place_count(&self) -> usize {
-        places_under(self.inner.place_count(), self.preset, &self.sequence)
+        if is_preset(self.preset) {
+            self.inner.place_count()
+        } else {
+            0
+        }
     }
 
     fn block_width(&self) -> usize {
@@ -74,14 +82,14 @@ impl<S: BlockStore> BlockStore for Randomizer<S> {
     }
 
     fn put(&mut self, place: usize, block: &[u8]) -> Result<(), StoreRefusal> {
-        if !is_preset(self.preset) || place >= self.inner.place_count() {
+        if place >= self.place_count() {
             return Err(StoreRefusal::Place);
         }
         if block.len() != self.inner.block_width() {
             return Err(StoreRefusal::Length);
         }
         let mut bytes = [0u8; MOST_WIDTH];
-        let part = &mut bytes[0..block.len()];
+        let part = &mut bytes[..block.len()];
         part.copy_from_slice(block);
         randomize(&self.sequence, part);
         self.inner.put(place, part)

@@ -1,6 +1,5 @@
-ghost use Rattle.std.specs.Prelude.{◌≡◌, ℕ, ◌+◌, ◌-◌, ◌/◌, ◌%◌, ◌^◌, ◌<◌, List, map, length};
-ghost use Rattle.std.specs.List.{range_with_len};
-ghost use Rattle.randomizer.specs.Sequence.{moved, after, packed, bit_at, byte_at, sequence_of, mixed};
+ghost use Rattle.std.specs.Prelude.{◌≡◌, ℕ, ◌+◌, ◌-◌, ◌/◌, ◌%◌, ◌^◌, ◌<◌, List};
+ghost use Rattle.randomizer.specs.Sequence.{moved, after, packed, bit_at, sequence_of, mixed};
 
 use store::MOST_WIDTH;
 
@@ -26,36 +25,28 @@ fn next_byte(register: u8) -> (u8, u8)
     (byte, moving)
 }
 
-// Writes as many bytes of the sequence as there is room for.
-fn fill_sequence(bytes: &mut [u8], preset: u8)
-    ensures { bytes.new ≡ map (byte_at preset) (range_with_len 0 (length bytes.old)) }
-{
-    let mut register = preset % 128;
-    for j in 0..bytes.len() {
-        let (byte, next) = next_byte(register);
-        bytes[j] = byte;
-        register = next;
-    }
-}
-
 /// The bytes of the sequence for the widest block.
-pub fn sequence_of(preset: u8) -> [u8; 88]
+pub fn sequence_of(preset: u8) -> [u8; MOST_WIDTH]
     ensures bytes { result ≡ sequence_of preset }
     ensures starts { preset < 128 → (t : ℕ) → t < 7 → bit_at preset t ≡ preset / 2 ^ (6 - t) % 2 }
     ensures recurs { (t : ℕ) → bit_at preset (t + 7) ≡ (bit_at preset (t + 3) + bit_at preset t) % 2 }
 {
-    let mut bytes = [0u8; MOST_WIDTH];
-    fill_sequence(&mut bytes, preset);
+    let mut bytes = [0; MOST_WIDTH];
+    let mut register = preset % 128;
+    for byte in bytes.iter_mut() {
+        (*byte, register) = next_byte(register);
+    }
     bytes
 }
 
-/// Puts each byte of `block` under the byte of `sequence` that stands beside it; a second time takes it off again.
+/// Puts each byte of `block` under the byte of `sequence` that stands beside it; a second time takes
+/// it off again.
 pub fn randomize(sequence: &[u8], block: &mut [u8])
     ensures mixed { block.new ≡ mixed sequence.now block.old }
     ensures twice { (b : List ℕ) → mixed sequence.now (mixed sequence.now b) ≡ b }
 {
-    let n = block.len().min(sequence.len());
-    for i in 0..n {
-        block[i] = block[i] ^ sequence[i];
+    // by index, since a proof keeps no write that is made through a `zip` of `iter_mut`
+    for i in 0..block.len().min(sequence.len()) {
+        block[i] ^= sequence[i];
     }
 }

@@ -2,7 +2,7 @@
 // generic code that takes a sum for an xor goes wrong over it.
 #![tactic(auto)]
 
-ghost use Rattle.std.specs.Prelude.{◌≡◌, ◌+◌, ◌-◌, ◌%◌, ◌<◌, bit_xor};
+ghost use Rattle.std.specs.Prelude.{◌≡◌, ◌+◌, ◌-◌, ◌%◌, ◌<◌, bit_xor, refl};
 ghost use Rattle.field.specs.Systems.{sum_of, product_of, opposite_of, partner_of};
 ghost use Rattle.relabelled.specs.Labels.{label_system, value_of, label_of};
 
@@ -45,17 +45,11 @@ impl NumberSystem for RelabelledField {
 
     ghost system = { label_system };
 
-    fn order() -> u16 {
-        Self::Q
-    }
+    ghost Q = { label_system.order };
 
-    fn symbols_per_byte() -> usize {
-        Self::PER_BYTE
-    }
+    ghost PER_BYTE = { label_system.per };
 
-    fn root() -> u8 {
-        Self::ALPHA
-    }
+    ghost ALPHA = { label_system.root.code };
 
     fn add(a: u8, b: u8) -> u8
         ensures sum { result ≡ sum_of label_system a b }
@@ -68,12 +62,9 @@ impl NumberSystem for RelabelledField {
         ensures product { result ≡ product_of label_system a b }
         ensures labels { 0 < a % 16 → 0 < b % 16 → result ≡ (a % 16 + b % 16 - 2) % 15 + 1 }
     {
-        let a = a % 16;
-        let b = b % 16;
-        if a == 0 || b == 0 {
-            0
-        } else {
-            (a + b - 2) % 15 + 1
+        match (a % 16, b % 16) {
+            (0, _) | (_, 0) => 0,
+            (a, b) => (a + b - 2) % 15 + 1,
         }
     }
 
@@ -83,6 +74,12 @@ impl NumberSystem for RelabelledField {
     {
         a % 16 // each symbol is its own opposite
     }
+
+    ghost order_is = { refl };
+
+    ghost per_is = { refl };
+
+    ghost root_is = { refl };
 }
 
 // Inverses turn the exponent round.
@@ -91,8 +88,10 @@ impl Field for RelabelledField {
         ensures partner { result ≡ partner_of label_system a }
         ensures labels { 0 < a % 16 → result ≡ (16 - a % 16) % 15 + 1 }
     {
-        let a = a % 16;
-        if a == 0 { 0 } else { (16 - a) % 15 + 1 }
+        match a % 16 {
+            0 => 0,
+            a => (16 - a) % 15 + 1,
+        }
     }
 }
 

@@ -1,5 +1,5 @@
 -- A fair run over a closed sector answers and leaves what the model does; no run changes a place that is no row's.
-use Rattle.std.proofs.Common.{◌≡◌, ℕ, ◌<◌, ◌≤◌, true, List, [], ◌∷◌, map, length, get_or, sym, refl, ap, ◌∙◌, subst, ap₂}
+use Rattle.std.proofs.Common.{◌≡◌, ℕ, ◌<◌, ◌≤◌, true, List, [], ◌∷◌, map, length, get_or, refl, ◌∙◌, ap₂}
 use Rattle.field.specs.Systems.{System}
 use Rattle.store.specs.Store.{Store, at}
 use Rattle.block.specs.Layouts.{row_count}
@@ -8,16 +8,15 @@ use Rattle.sector.specs.Terms.{fits}
 use Rattle.sector.specs.Bodies.{block_of, Closed}
 use Rattle.sector.specs.Opening.{Contents, SameFrom}
 use Rattle.sector.specs.declared.terms.Terms.{Terms}
-use Rattle.replay.specs.Answers.{answer_of}
+use Rattle.replay.specs.Answers.{Reply, answer_of}
 use Rattle.replay.specs.Model.{closed_block, call_after, memory_after, call_answers, contents_after, memory_at_end, AllFair}
 use Rattle.replay.specs.Runs.{Applied, Ran}
 use Rattle.replay.specs.Promise.{Agrees}
 use Rattle.replay.specs.declared.script.Call.{Call}
 use Rattle.replay.specs.declared.script.Call.TheVariants.{PutBlock, Erase, Check, Read, Repair}
-use Rattle.replay.specs.declared.script.Reply.{Reply}
 use Rattle.replay.proofs.Fitting.{symbols_fit, fits_alike}
 use Rattle.replay.proofs.Places.{all_there, same_path, same_then}
-use Rattle.replay.proofs.Rows.{Held, Good}
+use Rattle.replay.proofs.Rows.{Good}
 use Rattle.replay.proofs.Modelled.{InBytes, Same, answer_same, memory_same, after_same, closed_good, after_good}
 use Rattle.replay.proofs.Steps.{call_same, call_follows}
 
@@ -54,7 +53,7 @@ module _ (s : System) (t : Terms) where
         → Good s t bodies P → Same s t (at st) P → fits s t st ≡ true → row_count t.layout ≤ length st.contents
         → AllFair t s bodies calls → Ran s t st memory calls answers st' memory' → Ended s t bodies P memory calls answers st' memory'
     run_ends P st memory [] [] st' memory' g same fit seats fair h =
-        record { answers_are = refl; memory_is = h.1; places = λ r lr. ap (λ (z : Store). at z r) h.0 ∙ same r lr; good = g }
+        record { answers_are = refl; memory_is = h.1; places = λ r lr. rw h.0 (same r lr); good = g }
     run_ends P st memory [] (a ∷ answers) st' memory' g same fit seats fair h = absurd h
     run_ends P st memory (c ∷ calls) [] st' memory' g same fit seats fair h = absurd h
     run_ends P st memory (c ∷ calls) (a ∷ answers) st' memory' g same fit seats fair h =
@@ -62,7 +61,7 @@ module _ (s : System) (t : Terms) where
         let kept = h.1 in
         let here = h.2 in
         let sizes = symbols_fit s t st fit in
-        let held : Good s t bodies (at st) = λ r lr. subst (Held s t bodies r) (sym (same r lr)) (g r lr) in
+        let held : Good s t bodies (at st) = λ r lr. rw (same r lr) (g r lr) in
         let step = call_follows s t rows bodies closed sizes.0 sizes.1 st fit seats held memory c a mid kept here in
         let others = call_same s t st memory c a mid kept here in
         let Q = call_after t s bodies P c in
@@ -75,8 +74,8 @@ module _ (s : System) (t : Terms) where
         record {
           answers_are =
               ap₂ ◌∷◌ (step.answer_is ∙ answer_same s t (at st) P same bodies memory c)
-              (rest.answers_are ∙ ap (λ (m : List ℕ). call_answers t s bodies Q m calls) memory_now);
-          memory_is = rest.memory_is ∙ ap (λ (m : List ℕ). memory_at_end t s bodies Q m calls) memory_now;
+              (rw (← memory_now) rest.answers_are);
+          memory_is = rw (← memory_now) rest.memory_is;
           places = rest.places;
           good = rest.good;
         }

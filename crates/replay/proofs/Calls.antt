@@ -1,7 +1,6 @@
 -- Lists of calls: one more call, and calls where the terms do not fit.
-use Rattle.std.proofs.Common.{◌≡◌, ℕ, ◌+◌, ◌-◌, ◌<◌, ◌≤◌, false, eqb, ltb, ◌⊎◌, List, [], ◌∷◌, ◌++◌, map, length, get_or, take, drop, set, replicate, Some, None, Option, sym, refl, ap, ◌∙◌, subst, arith}
+use Rattle.std.proofs.Common.{◌≡◌, ℕ, ◌+◌, ◌-◌, ◌<◌, ◌≤◌, false, eqb, ltb, ◌⊎◌, List, [], ◌∷◌, ◌++◌, map, length, get_or, take, drop, set, replicate, Some, None, Option, sym, refl, ap, ◌∙◌, ap₂}
 use borrow.Rule.Slice.PartMut.{put_mid}
-use Rattle.std.proofs.lemmas.List.{take_more, take_more_set, take_all, map_push}
 use Rattle.std.proofs.lemmas.Bool.{cond-false}
 use Rattle.std.proofs.lemmas.Bool.Decides.{when_false}
 use Rattle.field.specs.Systems.{System}
@@ -13,53 +12,42 @@ use Rattle.sector.specs.Terms.{fits, fitted, data_guards}
 use Rattle.sector.specs.Fillings.{condition_at}
 use Rattle.sector.specs.Closing.{stored, Reads, Reading, Repairs}
 use Rattle.sector.specs.declared.terms.Terms.{Terms}
-use Rattle.replay.specs.Answers.{answer_of}
+use Rattle.replay.specs.Answers.{Reply, answer_of}
 use Rattle.replay.specs.Model.{part_of, with_part}
 use Rattle.replay.specs.Runs.{ReadPart, Applied, Ran}
 use Rattle.replay.specs.declared.script.Call.{Call}
 use Rattle.replay.specs.declared.script.Call.TheVariants.{PutBlock, Erase, Check, Read, Repair}
-use Rattle.replay.specs.declared.script.Reply.{Reply}
 use Rattle.replay.proofs.Fitting.{unfitted_is}
+use Rattle.replay.proofs.Cuts.{one_more}
 use Rattle.replay.proofs.Memory.{part_there, part_missing, part_is, no_part, part_written, none_written, part_kept}
 
 module _ (s : System) (t : Terms) where
   -- a read into a part that is there
-  pub read_there : (st : Store) (memory buffer : List ℕ) (row from to : ℕ) (a b : Answer) → from ≤ to → to ≤ length memory
-      → Reading s t st row (take (to - from) (drop from memory)) buffer a → b ≡ a
-      → ReadPart s t st memory row from to b (put_mid from (to - from) memory buffer)
-  read_there st memory buffer row from to a b h k read e =
-      let P : List ℕ → Type 0 = λ old. Reading s t st row old buffer a in
-      let Q : Answer → Type 0 = λ x. Reading s t st row (part_of memory from to) buffer x in (
-        buffer,
-        subst Q (sym e) (subst P (sym (part_is memory from to (part_there memory from to h k))) read),
-        part_written memory from to buffer h k,
-      )
+  pub read_there : (st : Store) (memory buffer : List ℕ) (row from to : ℕ) (a : Answer) → from ≤ to → to ≤ length memory
+      → Reading s t st row (take (to - from) (drop from memory)) buffer a
+      → ReadPart s t st memory row from to a (put_mid from (to - from) memory buffer)
+  read_there st memory buffer row from to a h k read =
+      (buffer, rw (part_is memory from to (part_there memory from to h k)) read, part_written memory from to buffer h k)
 
   -- a read where there is no such part
-  pub read_none : (st : Store) (memory buffer : List ℕ) (row from to : ℕ) (a b : Answer) → ((from ≤ to) × (length memory < to)) ⊎ (to < from)
-      → Reading s t st row [] buffer a → b ≡ a
-      → ReadPart s t st memory row from to b memory
-  read_none st memory buffer row from to a b h read e =
-      let P : List ℕ → Type 0 = λ old. Reading s t st row old buffer a in
-      let Q : Answer → Type 0 = λ x. Reading s t st row (part_of memory from to) buffer x in
-      let out = part_missing memory from to h in (
-        buffer,
-        subst Q (sym e) (subst P (sym (no_part memory from to out)) read),
-        sym (none_written memory from to buffer out),
-      )
+  pub read_none : (st : Store) (memory buffer : List ℕ) (row from to : ℕ) (a : Answer) → ((from ≤ to) × (length memory < to)) ⊎ (to < from)
+      → Reading s t st row [] buffer a
+      → ReadPart s t st memory row from to a memory
+  read_none st memory buffer row from to a h read =
+      let out = part_missing memory from to h in
+      (buffer, rw (no_part memory from to out) read, sym (none_written memory from to buffer out))
 
-  pub applied_read : (st : Store) (memory memory' : List ℕ) (call : Call) (row from to : ℕ) (a : Answer) → call ≡ Read row from to
-      → ReadPart s t st memory row from to a memory' → Applied s t st memory call a st memory'
-  applied_read st memory memory' call row from to a e h = let P : Call → Type 0 = λ c. Applied s t st memory c a st memory' in subst P (sym e) (h.0, h.1, refl, h.2)
+  pub applied_read : (st : Store) (memory memory' : List ℕ) (call : Call) (row from to : ℕ) (a b : Answer) → call ≡ Read row from to → b ≡ a
+      → ReadPart s t st memory row from to a memory' → Applied s t st memory call b st memory'
+  applied_read st memory memory' call row from to a b e f h =
+      rw (e, f) (h.0, h.1, refl, h.2)
 
   -- a run, and then one more call
   ran_push : (st mid st' : Store) (memory kept memory' : List ℕ) (calls : List Call) (answers : List Answer) (c : Call) (a : Answer)
       → Ran s t st memory calls answers mid kept → Applied s t mid kept c a st' memory'
       → Ran s t st memory (calls ++ (c ∷ [])) (answers ++ (a ∷ [])) st' memory'
   ran_push st mid st' memory kept memory' [] [] c a h one =
-      let P : Store → Type 0 = λ x. Applied s t x kept c a st' memory' in
-      let Q : List ℕ → Type 0 = λ m. Applied s t st m c a st' memory' in
-      (st', memory', subst Q h.1 (subst P h.0 one), (refl, refl))
+      (st', memory', rw (h.0, h.1) at one, (refl, refl))
   ran_push st mid st' memory kept memory' [] (b ∷ answers) c a h one = absurd h
   ran_push st mid st' memory kept memory' (d ∷ calls) [] c a h one = absurd h
   ran_push st mid st' memory kept memory' (d ∷ calls) (b ∷ answers) c a h one =
@@ -67,29 +55,13 @@ module _ (s : System) (t : Terms) where
 
   -- the step of a loop over the calls
   pub ran_more : (st mid st' : Store) (memory kept memory' : List ℕ) (calls : List Call) (replies : List Reply) (i : ℕ) (d : Call) (r : Reply)
-      (u : Terms) → u ≡ t → i < length calls → length replies ≡ length calls
+      (u : Terms) → u ≡ t → i < length calls → i < length replies
       → Ran s t st memory (take i calls) (map answer_of (take i replies)) mid kept
       → Applied s u mid kept (get_or calls i d) (answer_of r) st' memory'
       → Ran s t st memory (take (i + 1) calls) (map answer_of (take (i + 1) (set replies i r))) st' memory'
-  ran_more st mid st' memory kept memory' calls replies i d r u eu lt len inv one =
-      let ec : take (i + 1) calls ≡ take i calls ++ (get_or calls i d ∷ []) = take_more calls i d lt in
-      let er : map answer_of (take (i + 1) (set replies i r)) ≡ map answer_of (take i replies) ++ (answer_of r ∷ [])
-      = ap (map answer_of) (take_more_set replies i r (omega arith)) ∙ map_push answer_of (take i replies) r in
-      let O : Terms → Type 0 = λ x. Applied s x mid kept (get_or calls i d) (answer_of r) st' memory' in
-      let P : List Call → Type 0 = λ cs. Ran s t st memory cs (map answer_of (take (i + 1) (set replies i r))) st' memory' in
-      let Q : List Answer → Type 0 = λ xs. Ran s t st memory (take i calls ++ (get_or calls i d ∷ [])) xs st' memory' in
-      subst P (sym ec)
-      (subst Q (sym er) (ran_push st mid st' memory kept memory' (take i calls) (map answer_of (take i replies)) (get_or calls i d) (answer_of r) inv (subst O eu one)))
-
-  -- and its end
-  pub ran_all : (st st' : Store) (memory memory' : List ℕ) (calls : List Call) (replies : List Reply) (i : ℕ)
-      → length calls ≤ i → length replies ≡ length calls
-      → Ran s t st memory (take i calls) (map answer_of (take i replies)) st' memory'
-      → Ran s t st memory calls (map answer_of replies) st' memory'
-  ran_all st st' memory memory' calls replies i le len inv =
-      let P : List Call → Type 0 = λ cs. Ran s t st memory cs (map answer_of replies) st' memory' in
-      let Q : List Reply → Type 0 = λ rs. Ran s t st memory (take i calls) (map answer_of rs) st' memory' in
-      subst P (take_all i calls le) (subst Q (take_all i replies (omega arith)) inv)
+  ran_more st mid st' memory kept memory' calls replies i d r u eu lc lr inv one =
+      one_more answer_of (λ cs xs. Ran s t st memory cs xs st' memory') calls replies i d r lc lr
+      (ran_push st mid st' memory kept memory' (take i calls) (map answer_of (take i replies)) (get_or calls i d) (answer_of r) inv (rw eu at one))
 
   -- where the terms do not fit, a call is refused by one number and changes nothing
   refused_stored : (st st' : Store) (a : Answer) (row : ℕ) (o : Option (List ℕ)) → fits s t st ≡ false → a ≡ fitted s t st (taken [])
@@ -128,8 +100,7 @@ module _ (s : System) (t : Terms) where
   ran_unfit st st' memory memory' (c ∷ calls) (b ∷ answers) unfit h =
       let one = applied_unfit st h.0 memory h.1 c b unfit h.2 in
       let all = ran_unfit h.0 st' h.1 memory' calls answers (ap (fits s t) one.1 ∙ unfit) h.3 in (
-        ap (λ x. x ∷ answers) one.0
-            ∙ ap (λ xs. fitted s t st (taken []) ∷ xs) (all.0 ∙ ap (λ (y : Store). replicate (length calls) (fitted s t y (taken []))) one.1),
+        ap₂ ◌∷◌ one.0 (rw one.1 at all.0),
         all.1 ∙ one.1,
         all.2 ∙ one.2,
       )

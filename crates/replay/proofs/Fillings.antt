@@ -1,11 +1,11 @@
 -- Rows that hold blocks within reach have exactly one filling: the closed bodies' data symbols.
-use Rattle.std.proofs.Common.{◌≡◌, ℕ, ◌<◌, ◌≤◌, false, List, [], ◌∷◌, map, length, get_or, take, sym, refl, ap, ◌∙◌, subst, ap₂, arith}
+use Rattle.std.proofs.Common.{◌≡◌, ℕ, ◌<◌, ◌≤◌, false, List, [], ◌∷◌, map, length, get_or, take, sym, refl, ap, ◌∙◌, ap₂, arith}
 use lib.ListN.{length-map}
 use Rattle.std.specs.List.{range_with_len}
 use Rattle.std.proofs.lemmas.List.{ext_get_or, get_or-map, get_or-take, length-take-le}
 use Rattle.std.proofs.lemmas.List.FromFn.{length-map-range_with_len, get_or-map-range_with_len}
 use Rattle.field.specs.Systems.{System, Symbol}
-use Rattle.code.specs.Codewords.{Symbols, Codeword, distance}
+use Rattle.code.specs.Codewords.{Symbols, distance}
 use Rattle.code.proofs.Completion.{apart_off}
 use Rattle.code.proofs.Distance.{codewords_apart}
 use Rattle.grid.specs.Grids.{row_symbols, data_symbols}
@@ -84,8 +84,7 @@ module _ (s : System) (t : Terms) (few : row_count t.layout < s.order) where
             let parts = parts_of_row s (shape_of t.layout) in
             ap length (get_or_own r lr) ∙ length-take-le w (sent s t bodies r) (omega arith);
         kept = λ r lr e. get_or_own r lr ∙ ap (take w) (sym (word_sent s t bodies rows closed short r lr (P r) (good r lr) e));
-        columns = λ j lj.
-            subst (λ (xs : Symbols s). Codeword s (check_rows t.layout) xs) (sym (own_column j lj (words s t.layout bodies))) (closed.columns j lj);
+        columns = λ j lj. rw (own_column j lj (words s t.layout bodies)) (closed.columns j lj);
       }
 
       -- any filling has the closed bodies' data symbols

@@ -1,10 +1,10 @@
 -- What is tested first in every call: the terms fit, or one refusal answers everything.
-use Rattle.std.proofs.Common.{◌≡◌, ℕ, ◌<◌, ◌≤◌, Bool, true, false, ◌&&◌, eqb, ltb, leb, ◌⊎◌, [], sym, refl, ap, ◌∙◌, inl, inr}
+use Rattle.std.proofs.Common.{◌≡◌, ℕ, ◌<◌, ◌≤◌, Bool, true, false, ◌⊎◌, [], sym, refl, ap, ◌∙◌, inl, inr}
 use Rattle.std.proofs.lemmas.Bool.{both_ways}
 use Rattle.field.specs.Systems.{System}
 use Rattle.grid.specs.Grids.{row_symbols}
 use Rattle.store.specs.Store.{Store}
-use Rattle.block.specs.Layouts.{shape_of, row_count, block_width}
+use Rattle.block.specs.Layouts.{shape_of, row_count}
 use Rattle.sector.specs.Answers.{Answer, taken, refused, guarded, is_taken}
 use Rattle.sector.specs.Terms.{Fits, fitted, fits}
 use Rattle.sector.specs.declared.terms.Terms.{Terms}
@@ -14,10 +14,6 @@ use Rattle.sector.proofs.Fits as base
 pub guard_passed : (b : Bool) (k : ℕ) (a : Answer) → is_taken (guarded b k a) ≡ true → b ≡ true
 guard_passed true k a e = refl
 guard_passed false k a e = e
-
-guard_under : (b : Bool) (k : ℕ) (a : Answer) → is_taken (guarded b k a) ≡ true → is_taken a ≡ true
-guard_under true k a e = e
-guard_under false k a e = absurd (both_ways false refl e)
 
 module _ (s : System) (t : Terms) (st : Store) where
   -- where the terms fit, what is asked next answers
@@ -34,11 +30,11 @@ module _ (s : System) (t : Terms) (st : Store) where
 
   -- what is taken went on
   pub fitted_under : (x : Answer) → is_taken (fitted s t st x) ≡ true → is_taken x ≡ true
-  fitted_under x h =
-      let d = ltb (row_count t.layout) s.order && ltb (row_symbols s (shape_of t.layout)) s.order in
-      let c = eqb st.width (block_width t.layout) in
-      let b = leb (row_count t.layout) st.places in
-      guard_under d 6 x (guard_under c 5 (guarded d 6 x) (guard_under b 4 (guarded c 5 (guarded d 6 x)) (guard_under (leb t.pair 11) 3 (guarded b 4 (guarded c 5 (guarded d 6 x))) h)))
+  fitted_under x h = go (fitted_cases s t st)
+    where
+      go : Fits s t st ⊎ ((k : ℕ) × ((a : Answer) → fitted s t st a ≡ refused k [])) → is_taken x ≡ true
+      go (inl f) = ap is_taken (sym (base.fitted_is s t st f x)) ∙ h
+      go (inr m) = let e : false ≡ true = sym (ap is_taken (m.1 x)) ∙ h in cc
 
   -- every row has a place
   pub fit_places : fits s t st ≡ true → row_count t.layout ≤ st.places
@@ -51,11 +47,4 @@ module _ (s : System) (t : Terms) (st : Store) where
   -- whether terms fit is a matter of the store's places and width
   pub fits_alike : (new : Store) → new.places ≡ st.places → new.width ≡ st.width → fits s t new ≡ fits s t st
   fits_alike new ep ew =
-      let P : ℕ → ℕ → Bool = λ places width.
-      is_taken
-      (guarded (leb t.pair 11) 3
-      (guarded (leb (row_count t.layout) places) 4
-      (guarded (eqb width (block_width t.layout)) 5
-      (guarded (ltb (row_count t.layout) s.order && ltb (row_symbols s (shape_of t.layout)) s.order) 6 (taken [])))))
-      in
-      ap (λ n. P n new.width) ep ∙ ap (P st.places) ew
+      rw (ep, ew)

@@ -1,6 +1,7 @@
 -- The model keeps the laws of reading and repairing.
-use Rattle.std.proofs.Common.{◌≡◌, ℕ, ◌<◌, ◌≤◌, Bool, true, false, cond, not, leb, ◌⊎◌, List, [], ◌∷◌, length, get_or, drop, Some, refl, ap, ◌∙◌, ap₂, inl, inr}
-use Rattle.std.proofs.lemmas.Bool.{lt-ltb, eq-eqb, le-leb, lt-leb, or_left, or_right, or_from, not_from_true, not_from_false}
+use Rattle.std.proofs.Common.{◌≡◌, ℕ, ◌<◌, ◌≤◌, Bool, true, false, cond, ◌⊎◌, List, [], ◌∷◌, length, get_or, drop, Some, refl, ap, ◌∙◌, ap₂, arith}
+use Rattle.std.proofs.lemmas.Bool.Decides.{nat_tests}
+use Rattle.std.proofs.lemmas.Bool.{lt-ltb, eq-eqb, le-leb, lt-leb}
 use Rattle.field.specs.Systems.{System}
 use Rattle.grid.specs.Grids.{row_symbols}
 use Rattle.store.specs.Store.{Store, at}
@@ -26,15 +27,10 @@ use Rattle.replay.proofs.Agreement.{run_follows}
 module _ (s : System) (t : Terms) (rows : ℕ → List ℕ) (bodies : List (List ℕ)) (closed : Closed s t.layout rows bodies) where
   -- whether a row can be had
   had_true : (P : Contents) (row : ℕ) → (lost_at s t P row ≡ false) ⊎ (lost_count s t P ≤ check_rows t.layout) → recoverable t s bodies P row ≡ true
-  had_true P row (inl e) =
-      or_left (not (lost_at s t P row)) (leb (lost_count s t P) (check_rows t.layout)) (not_from_false (lost_at s t P row) e)
-  had_true P row (inr l) =
-      or_right (not (lost_at s t P row)) (leb (lost_count s t P) (check_rows t.layout)) (le-leb (lost_count s t P) (check_rows t.layout) l)
+  had_true P row h = grind (arith, nat_tests)
 
   had_false : (P : Contents) (row : ℕ) → lost_at s t P row ≡ true → check_rows t.layout < lost_count s t P → recoverable t s bodies P row ≡ false
-  had_false P row e l =
-      or_from (not (lost_at s t P row)) (leb (lost_count s t P) (check_rows t.layout)) (not_from_true (lost_at s t P row) e)
-      (lt-leb (lost_count s t P) (check_rows t.layout) l)
+  had_false P row e l = grind (arith, nat_tests)
 
   module _ (P : Contents) (row : ℕ) (memory : List ℕ) (from to : ℕ) (lr : row < data_rows t.layout)
       (long : length (part_of memory from to) ≡ data_bytes t.layout) where
@@ -45,12 +41,11 @@ module _ (s : System) (t : Terms) (rows : ℕ → List ℕ) (bodies : List (List
         (lt-ltb row (data_rows t.layout) lr) (eq-eqb (length (part_of memory from to)) (data_bytes t.layout) long)
 
     answer_at : (b : Bool) → recoverable t s bodies P row ≡ b → call_answer t s bodies P memory (Read row from to) ≡ cond b (taken []) (refused 9 (lost_count s t P ∷ []))
-    answer_at b e = read_answer ∙ ap (λ (x : Bool). cond x (taken []) (refused 9 (lost_count s t P ∷ []))) e
+    answer_at b e = read_answer ∙ rw e
 
     memory_at : (a : Answer) → call_answer t s bodies P memory (Read row from to) ≡ a
         → memory_after t s bodies P memory (Read row from to) ≡ cond (is_taken a) (with_part memory from to (rows row)) memory
-    memory_at a e =
-        ap₂ (λ (x : Answer) (d : List ℕ). cond (is_taken x) (with_part memory from to d) memory) e (closed.front row lr)
+    memory_at a e = rw (e, closed.front row lr)
 
     pub read_law : ReadLaw s t rows P row memory from to (call_answer t s bodies P memory (Read row from to)) (memory_after t s bodies P memory (Read row from to))
     read_law = record {
@@ -69,11 +64,11 @@ module _ (s : System) (t : Terms) (rows : ℕ → List ℕ) (bodies : List (List
     restored r = cond (is_clean (condition_at s t P r)) (P r) (closed_block t s bodies r)
 
     repaired_at : (b : Bool) → repairable t s bodies P ≡ b → call_after t s bodies P Repair ≡ cond b restored P
-    repaired_at b e = ap (λ (x : Bool). cond x restored P) e
+    repaired_at b e = rw e
 
     repair_answer : (memory : List ℕ) (b : Bool) → repairable t s bodies P ≡ b
         → call_answer t s bodies P memory Repair ≡ cond b (taken (broken_count s t P ∷ [])) (refused 9 (lost_count s t P ∷ []))
-    repair_answer memory b e = ap (λ (x : Bool). cond x (taken (broken_count s t P ∷ [])) (refused 9 (lost_count s t P ∷ []))) e
+    repair_answer memory b e = rw e
 
     pub repair_law : (memory : List ℕ) → RepairLaw s t bodies P (call_after t s bodies P Repair) (call_answer t s bodies P memory Repair)
     repair_law memory = record {

@@ -1,8 +1,8 @@
 pub mod Fitting
 pub mod Memory
+pub mod Cuts
 pub mod Calls
 pub mod Writes
-pub mod Cuts
 pub mod Places
 pub mod Rows
 pub mod Fillings

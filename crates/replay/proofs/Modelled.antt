@@ -3,11 +3,11 @@ use Rattle.std.proofs.Common.{◌≡◌, ℕ, ◌<◌, Bool, true, false, cond, 
 use Rattle.std.specs.List.{range_with_len}
 use Rattle.std.proofs.lemmas.List.FromFn.{length-map-range_with_len, get_or-map-range_with_len, fill_by_all}
 use Rattle.std.proofs.lemmas.Bool.{ltb-true, eqb-true}
+use Rattle.byte_string.specs.Bytes.{Bytes}
 use Rattle.field.specs.Systems.{System}
 use Rattle.code.specs.Codewords.{count}
 use Rattle.code.proofs.Apartness.{distance_self}
-use Rattle.grid.specs.Packing.{Bytes}
-use Rattle.store.proofs.Bytes.{bytes_drop}
+use Rattle.byte_string.proofs.Bytes.{bytes_drop}
 use Rattle.block.specs.Layouts.{row_count, data_rows, check_rows, data_bytes, block_width}
 use Rattle.block.specs.Conditions.{condition_values, condition, is_lost, is_clean}
 use Rattle.block.specs.declared.condition.Condition.{Condition}

@@ -23,7 +23,7 @@ held_there st r b e = go (cases_lt r (length st.contents))
     go (inl h) = h
     go (inr h) =
         let none : at st r ≡ None = get_or_past st.contents r None h in
-        let z : ◌≡◌ {A = ℕ} 0 1 = cc in absurd (let y : ⊥ = omega arith in y)
+        cc
 
 -- a store with a block at each of its first n places has so many
 pub all_there : (st : Store) (n : ℕ) → ((r : ℕ) → r < n → (b : List ℕ) × (at st r ≡ Some b)) → n ≤ length st.contents
@@ -52,5 +52,5 @@ pub same_with_at : (n : ℕ) (st : Store) (row : ℕ) (o : Option (List ℕ)) �
 same_with_at n st row o l = record {
   places = refl;
   width = refl;
-  others = λ k lk. get_or-set_other st.contents row k o None (λ e. let z : ⊥ = omega arith in z);
+  others = λ k lk. get_or-set_other st.contents row k o None (λ e. omega arith);
 }

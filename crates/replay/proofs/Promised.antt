@@ -8,13 +8,12 @@ use Rattle.sector.specs.Bodies.{Closed}
 use Rattle.sector.specs.Opening.{SameFrom}
 use Rattle.sector.specs.declared.terms.Terms.{Terms}
 use Rattle.sector.proofs.Uniqueness.{closed_is_one}
-use Rattle.replay.specs.Answers.{answer_of}
+use Rattle.replay.specs.Answers.{Reply, answer_of}
 use Rattle.replay.specs.Model.{data_after, unwritten, write_answers, closed_block}
 use Rattle.replay.specs.Runs.{Ran}
 use Rattle.replay.specs.Promise.{Promise}
 use Rattle.replay.specs.declared.script.RowWrite.{RowWrite}
 use Rattle.replay.specs.declared.script.Call.{Call}
-use Rattle.replay.specs.declared.script.Reply.{Reply}
 use Rattle.replay.proofs.Fitting.{symbols_fit}
 use Rattle.replay.proofs.Places.{same_then}
 use Rattle.replay.proofs.Agreement.{run_same, run_agrees}

@@ -1,6 +1,6 @@
 -- Rows that hold a block within reach of their closed body: what is accepted of such a row is that body.
 use Rattle.std.proofs.Common.{◌≡◌, ℕ, suc, ◌*◌, ◌<◌, ◌≤◌, Bool, true, false, cond, List, [], ◌∷◌, length, get_or, drop, Some, None, Option, unwrap_or, sym, refl, ap, ◌∙◌, arith, length-drop}
-use Rattle.std.proofs.lemmas.Bool.{both_ways}
+use Rattle.byte_string.specs.Bytes.{Bytes}
 use Rattle.field.specs.Systems.{System}
 use Rattle.field.proofs.Sizes.{per_some}
 use Rattle.code.specs.Codewords.{Symbols, differences, count, distance}
@@ -8,7 +8,6 @@ use Rattle.code.specs.Acceptance.{Near, Accepted}
 use Rattle.code.proofs.Apartness.{alike}
 use Rattle.code.proofs.Reach.{accepted_sent}
 use Rattle.code.proofs.Trying.{nearest_accepted}
-use Rattle.grid.specs.Packing.{Bytes}
 use Rattle.grid.specs.Grids.{row_symbols, check_symbols}
 use Rattle.block.specs.Layouts.{shape_of, row_count, block_width}
 use Rattle.block.specs.Identification.{right_id}
@@ -29,25 +28,25 @@ two_checks s Video = omega (arith, per_some s)
 two_checks s Subcode = omega (arith, per_some s)
 
 none_later : (o : Option ℕ) → ◌≡◌ {A = Option ℕ} (elim o [ Some p ↦ Some (suc p) | None ↦ None ]) None → o ≡ None
-none_later (Some p) e = let z : ◌≡◌ {A = ℕ} 0 1 = cc in absurd (let y : ⊥ = omega arith in y)
+none_later (Some p) e = cc
 none_later None e = refl
 
 none_true : (bs : List Bool) → first_true bs ≡ None → count bs ≡ 0
 none_true [] e = refl
-none_true (true ∷ bs) e = let z : ◌≡◌ {A = ℕ} 0 1 = cc in absurd (let y : ⊥ = omega arith in y)
+none_true (true ∷ bs) e = cc
 none_true (false ∷ bs) e = none_true bs (none_later (first_true bs) e)
 
 found_none : (o : Option ℕ) → is_clean (elim o [ Some p ↦ Corrected p | None ↦ Clean ]) ≡ true → o ≡ None
-found_none (Some p) e = absurd (both_ways false refl e)
+found_none (Some p) e = cc
 found_none None e = refl
 
 -- a whole row is not lost
 pub clean_kept : (c : Condition) → is_clean c ≡ true → is_lost c ≡ false
-clean_kept Blank e = absurd (both_ways false refl e)
-clean_kept WrongId e = absurd (both_ways false refl e)
+clean_kept Blank e = cc
+clean_kept WrongId e = cc
 clean_kept Clean e = refl
-clean_kept (Corrected p) e = absurd (both_ways false refl e)
-clean_kept OutOfReach e = absurd (both_ways false refl e)
+clean_kept (Corrected p) e = cc
+clean_kept OutOfReach e = cc
 
 module _ (s : System) (t : Terms) (bodies : List (List ℕ)) where
   -- the symbols of a row's closed body
@@ -100,12 +99,12 @@ module _ (s : System) (t : Terms) (bodies : List (List ℕ)) where
     row_word : (b : List ℕ) → Close r b → (right : Bool) (o : Option (Symbols s)) → Accepted s 1 c (symbols_in s (drop 3 b)) o
         → is_lost (cond right (judgement s (symbols_in s (drop 3 b)) o) WrongId) ≡ false → unwrap_or o [] ≡ sent r
     row_word b h true (Some w) a e = word_is b h w a.0
-    row_word b h true None a e = absurd (both_ways true e refl)
-    row_word b h false o a e = absurd (both_ways true e refl)
+    row_word b h true None a e = cc
+    row_word b h false o a e = cc
 
     -- what is accepted of a row that is not lost
     pub word_sent : (o : Option (List ℕ)) → Held r o → is_lost (condition s t.layout t.pair r o) ≡ false → word_of s t.layout o ≡ sent r
-    word_sent None h e = absurd (both_ways true e refl)
+    word_sent None h e = cc
     word_sent (Some b) h e =
         row_word b h (right_id t.layout t.pair r b) (accepted_word s c (drop 3 b)) (accepted_right b h) e
 
@@ -116,13 +115,13 @@ module _ (s : System) (t : Terms) (bodies : List (List ℕ)) where
         let n = a.0 in
         let none : distance xs w ≡ 0 = none_true (differences xs w) (found_none (first_true (differences xs w)) e) in
         (refl, alike xs w (sym n.long) (omega arith) ∙ word_is b h w n)
-    clean_word b h true None a e = absurd (both_ways false refl e)
-    clean_word b h false o a e = absurd (both_ways false refl e)
+    clean_word b h true None a e = cc
+    clean_word b h false o a e = cc
 
     -- a whole row holds its closed body under a right identification
     pub clean_body : (o : Option (List ℕ)) → Held r o → is_clean (condition s t.layout t.pair r o) ≡ true
         → (b : List ℕ) × (o ≡ Some b) × (right_id t.layout t.pair r b ≡ true) × (drop 3 b ≡ get_or bodies r [])
-    clean_body None h e = absurd (both_ways false refl e)
+    clean_body None h e = cc
     clean_body (Some b) h e =
         let both = clean_word b h (right_id t.layout t.pair r b) (accepted_word s c (drop 3 b)) (accepted_right b h) e in
         let body = closed.each r lr in

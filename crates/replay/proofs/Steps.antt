@@ -1,16 +1,16 @@
 -- One call: it answers and leaves what the model does, and changes no place that is no row's.
-use Rattle.std.proofs.Common.{◌≡◌, ℕ, ◌*◌, ◌<◌, ◌≤◌, Bool, true, false, cond, not, ◌&&◌, ◌||◌, eqb, ltb, leb, ◌⊎◌, List, [], ◌∷◌, length, get_or, take, Some, None, MatchBool, Option, sym, refl, ap, ◌∙◌, subst, inl, inr, arith}
+use Rattle.std.proofs.Common.{◌≡◌, ℕ, ◌*◌, ◌<◌, ◌≤◌, Bool, true, false, cond, not, ◌&&◌, ◌||◌, eqb, ltb, leb, ◌⊎◌, List, [], ◌∷◌, length, get_or, take, Some, None, MatchBool, Option, sym, refl, ap, ◌∙◌, inl, inr, arith}
 use Rattle.std.proofs.lemmas.List.{length-set, length-take-le, get_or-take}
 use Rattle.std.proofs.lemmas.Bool.{ltb-true, leb-true, leb-false}
 use Rattle.field.specs.Systems.{System, Symbol}
 use Rattle.code.specs.Codewords.{Symbols}
 use Rattle.grid.specs.Grids.{row_symbols, data_symbols}
 use Rattle.store.specs.Store.{Store, at, with_at}
-use Rattle.store.proofs.Bytes.{bytes_take}
+use Rattle.byte_string.proofs.Bytes.{bytes_take}
 use Rattle.block.specs.Layouts.{shape_of, row_count, data_rows, check_rows, data_bytes, block_width}
 use Rattle.block.specs.Conditions.{is_clean, symbols_in}
 use Rattle.sector.specs.Answers.{Answer, taken, refused, guarded, is_taken}
-use Rattle.sector.specs.Terms.{fits, fitted}
+use Rattle.sector.specs.Terms.{fits}
 use Rattle.sector.specs.Bodies.{block_of, Closed}
 use Rattle.sector.specs.Opening.{SameFrom}
 use Rattle.sector.specs.Fillings.{condition_at, lost_at, lost_count, broken_count, Filling, NoFilling}
@@ -46,8 +46,7 @@ module _ (s : System) (t : Terms) where
   same_guarded : (st st' : Store) (row : ℕ) (o : Option (List ℕ)) (a x : Answer) → a ≡ x → (is_taken x ≡ true → row < row_count t.layout)
       → st' ≡ stored s t a st row o → SameFrom (row_count t.layout) st st'
   same_guarded st st' row o a x e l h =
-      subst (λ (z : Store). SameFrom (row_count t.layout) st z) (sym (h ∙ ap (λ (z : Answer). stored s t z st row o) e))
-      (same_stored st row o (is_taken x) l)
+      rw (h, e) (same_stored st row o (is_taken x) l)
 
   same_repaired : (st st' : Store) (a : Answer) (few : Bool) → leb (lost_count s t (at st)) (check_rows t.layout) ≡ few → Repairs s t st st' a
       → SameFrom (row_count t.layout) st st'
@@ -209,7 +208,7 @@ module _ (s : System) (t : Terms) where
           let over = h.over (leb-false (lost_count s t (at st)) (check_rows t.layout) e) in (
             over.0,
             (λ r lr. ap (λ (z : Store). at z r) over.1),
-            subst (λ (z : Store). n ≤ length z.contents) (sym over.1) seats,
+            rw over.1 seats,
           )
 
       pub call_follows : (memory : List ℕ) (c : Call) (a : Answer) (st' : Store) (memory' : List ℕ) → Applied s t st memory c a st' memory'
@@ -219,29 +218,29 @@ module _ (s : System) (t : Terms) where
           let y = eqb (length block.now) (block_width t.layout) in
           let asked : Answer = guarded x 7 (guarded y 8 (taken [])) in
           let e : a ≡ asked = h.1 ∙ fitted_is s t st fit asked in
-          let f : st' ≡ stored s t asked st row (Some block.now) = h.2 ∙ ap (λ (z : Answer). stored s t z st row (Some block.now)) e in
+          let f : st' ≡ stored s t asked st row (Some block.now) = rw e at h.2 in
           record {
             answer_is = e;
             memory_is = h.3;
-            places = λ r lr. ap (λ (z : Store). at z r) f ∙ put_at row (Some block.now) x y refl r;
-            seated = subst (λ (z : Store). n ≤ length z.contents) (sym f) (long_stored row (Some block.now) (is_taken asked));
+            places = λ r lr. rw f (put_at row (Some block.now) x y refl r);
+            seated = rw f (long_stored row (Some block.now) (is_taken asked));
           }
       call_follows memory (Erase row) a st' memory' h =
           let x = ltb row n in
           let asked : Answer = guarded x 7 (taken []) in
           let e : a ≡ asked = h.0 ∙ fitted_is s t st fit asked in
-          let f : st' ≡ stored s t asked st row None = h.1 ∙ ap (λ (z : Answer). stored s t z st row None) e in
+          let f : st' ≡ stored s t asked st row None = rw e at h.1 in
           record {
             answer_is = e;
             memory_is = h.2;
-            places = λ r lr. ap (λ (z : Store). at z r) f ∙ erased_at row None x refl r;
-            seated = subst (λ (z : Store). n ≤ length z.contents) (sym f) (long_stored row None (is_taken asked));
+            places = λ r lr. rw f (erased_at row None x refl r);
+            seated = rw f (long_stored row None (is_taken asked));
           }
       call_follows memory (Check row) a st' memory' h = record {
         answer_is = h.0 ∙ fitted_is s t st fit _;
         memory_is = h.2;
         places = λ r lr. ap (λ (z : Store). at z r) h.1;
-        seated = subst (λ (z : Store). n ≤ length z.contents) (sym h.1) seats;
+        seated = rw h.1 seats;
       }
       call_follows memory (Read row from to) a st' memory' h =
           let x = ltb row (data_rows t.layout) in
@@ -249,17 +248,16 @@ module _ (s : System) (t : Terms) where
           let asked : Answer = guarded x 7 (guarded y 8 (taken [])) in
           let both =
           reading_is memory row from to h.0 a x y refl
-          (subst (λ (z : Answer). MatchBool (is_taken z) (Reads s t st row (part_of memory from to) h.0 a) ((a ≡ z) × (h.0 ≡ part_of memory from to)))
-          (fitted_is s t st fit asked) h.1)
+          (rw (fitted_is s t st fit asked) at h.1)
           in
           record {
             answer_is = both.0;
             memory_is = h.3 ∙ both.1;
             places = λ r lr. ap (λ (z : Store). at z r) h.2;
-            seated = subst (λ (z : Store). n ≤ length z.contents) (sym h.2) seats;
+            seated = rw h.2 seats;
           }
       call_follows memory Repair a st' memory' h =
           let all =
-          repairs_is st' a (subst (λ (b : Bool). MatchBool b (Repairs s t st st' a) ((a ≡ fitted s t st (taken [])) × (st' ≡ st))) fit h.0) (leb (lost_count s t (at st)) (check_rows t.layout)) refl
+          repairs_is st' a (rw fit at h.0) (leb (lost_count s t (at st)) (check_rows t.layout)) refl
           in
           record { answer_is = all.0; memory_is = h.1; places = all.1; seated = all.2 }

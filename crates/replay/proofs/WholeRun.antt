@@ -1,5 +1,5 @@
 -- A whole run: what the writes, the close and the calls leave, put together.
-use Rattle.std.proofs.Common.{◌≡◌, ℕ, zero, suc, ◌<◌, Bool, true, false, List, [], map, length, get_or, replicate, sym, refl, ap, ◌∙◌, subst}
+use Rattle.std.proofs.Common.{◌≡◌, ℕ, zero, suc, ◌<◌, Bool, true, false, List, [], map, length, get_or, replicate, refl, ap, ◌∙◌}
 use Rattle.std.proofs.lemmas.Bool.{cond-false}
 use Rattle.std.proofs.lemmas.Bool.Decides.{when_true, when_false}
 use Rattle.field.specs.Systems.{System}
@@ -11,13 +11,12 @@ use Rattle.sector.specs.Terms.{fits, fitted}
 use Rattle.sector.specs.Bodies.{Closed}
 use Rattle.sector.specs.Opening.{data_in, filler, open_data, Written, Closes}
 use Rattle.sector.specs.declared.terms.Terms.{Terms}
-use Rattle.replay.specs.Answers.{answer_of}
+use Rattle.replay.specs.Answers.{Reply, answer_of}
 use Rattle.replay.specs.Model.{data_after, unwritten}
 use Rattle.replay.specs.Runs.{Ran, WroteAll, WritingAll}
 use Rattle.replay.specs.Promise.{Promise, Unfit, terms_of}
 use Rattle.replay.specs.declared.script.RowWrite.{RowWrite}
 use Rattle.replay.specs.declared.script.Call.{Call}
-use Rattle.replay.specs.declared.script.Reply.{Reply}
 use Rattle.replay.proofs.Fitting.{fits_alike}
 use Rattle.replay.proofs.Calls.{ran_unfit}
 use Rattle.replay.proofs.Writes.{rows_alike}
@@ -74,16 +73,14 @@ module _ (s : System) (t : Terms) where
       = when_false (Written s t (open_data l marked (at set_out)) set_out closed) (closed ≡ set_out) (ap (fits s t) wrote.1 ∙ unfit) closes ∙ wrote.1 in
       let so = ran_unfit s t closed end memory memory' calls (map answer_of replies) (ap (fits s t) same ∙ unfit) ran in
       record {
-        writes_refused = wrote.0 ∙ ap (λ (n : ℕ). replicate n (fitted s t start (taken []))) (sym many_writes);
-        calls_refused =
-            so.0 ∙ ap (λ (st : Store). replicate (length calls) (fitted s t st (taken []))) same
-            ∙ ap (λ (n : ℕ). replicate n (fitted s t start (taken []))) (sym many_calls);
+        writes_refused = rw many_writes wrote.0;
+        calls_refused = rw (many_calls, ← same) so.0;
         store_is = so.1 ∙ same;
         memory_is = so.2;
       }
 
 -- what a run comes to, whether the terms fit or not
-pub record Outcome (s : System) (t : Terms) (writes : List RowWrite) (calls : List Call) (start end : Store) (memory memory' : List ℕ) (write_replies replies : List Reply)
+pub record PromiseKept (s : System) (t : Terms) (writes : List RowWrite) (calls : List Call) (start end : Store) (memory memory' : List ℕ) (write_replies replies : List Reply)
     : Type 0 where
   pub fit : fits s t start ≡ true → Promise s t writes calls start end memory memory' write_replies replies
   pub unfit : fits s t start ≡ false → Unfit s t start end memory memory' write_replies replies
@@ -93,37 +90,22 @@ terms_are u l p el ep = ap (λ (x : Layout). terms_of x u.pair) el ∙ ap (terms
 
 module _ (s : System) (t : Terms) where
   -- a whole run, over stores of any kind, with the terms at each step
-  pub outcome : {X : Type 0} (St : X → Store) → (u v w : Terms) → u ≡ t → v ≡ u → w ≡ v
+  pub promise_kept : {X : Type 0} (St : X → Store) → (u v w : Terms) → u ≡ t → v ≡ u → w ≡ v
       → (writes : List RowWrite) (calls : List Call) (marks marked : List Bool) (memory memory' : List ℕ) (write_replies replies : List Reply)
       → marks ≡ replicate 149 false → length write_replies ≡ length writes → length replies ≡ length calls
       → (start opened wrote closed ran end : X) → opened ≡ start → end ≡ ran
       → WritingAll s u writes (St opened) (St wrote) marks marked (map answer_of write_replies)
       → Closes s v marked (St wrote) (St closed)
       → Ran s w (St closed) memory calls (map answer_of replies) (St ran) memory'
-      → Outcome s t writes calls (St start) (St end) memory memory' write_replies replies
-  outcome St u v w eu ev ew writes calls marks marked memory memory' write_replies replies em many_writes many_calls start opened wrote closed ran end eo ee
+      → PromiseKept s t writes calls (St start) (St end) memory memory' write_replies replies
+  promise_kept St u v w eu ev ew writes calls marks marked memory memory' write_replies replies em many_writes many_calls start opened wrote closed ran end eo ee
       writing closes runs =
-      let L : Terms → Type 0 = λ x. WritingAll s x writes (St opened) (St wrote) marks marked (map answer_of write_replies) in
-      let L' : Store → Type 0 = λ x. WritingAll s t writes x (St wrote) marks marked (map answer_of write_replies) in
-      let C : Terms → Type 0 = λ x. Closes s x marked (St wrote) (St closed) in
-      let R : Terms → Type 0 = λ x. Ran s x (St closed) memory calls (map answer_of replies) (St ran) memory' in
-      let R' : Store → Type 0 = λ x. Ran s t (St closed) memory calls (map answer_of replies) x memory' in
-      let writing' = subst L' (ap St eo) (subst L eu writing) in
-      let closes' = subst C (ev ∙ eu) closes in
-      let runs' = subst R' (ap St (sym ee)) (subst R (ew ∙ ev ∙ eu) runs) in
+      let writing' = rw (eu, eo) at writing in
+      let closes' = rw (ev, eu) at closes in
+      let runs' = rw (ew, ev, eu, ← ee) at runs in
       record {
         fit = λ e. whole_run s t writes calls (St start) (St wrote) (St closed) (St end) marks marked memory memory' write_replies replies e em writing' closes' runs';
         unfit = λ e.
             unfitting s t writes calls (St start) (St wrote) (St closed) (St end) marks marked memory memory' write_replies replies e many_writes many_calls
             writing' closes' runs';
       }
-
-  pub outcome_alike : (writes writes' : List RowWrite) (calls calls' : List Call) (start end : Store) (memory memory' : List ℕ)
-      (write_replies write_replies' replies replies' : List Reply) → writes ≡ writes' → calls ≡ calls' → write_replies ≡ write_replies' → replies ≡ replies'
-      → Outcome s t writes calls start end memory memory' write_replies replies → Outcome s t writes' calls' start end memory memory' write_replies' replies'
-  outcome_alike writes writes' calls calls' start end memory memory' write_replies write_replies' replies replies' el ec elr er h =
-      let P : List RowWrite → Type 0 = λ x. Outcome s t x calls start end memory memory' write_replies replies in
-      let Q : List Call → Type 0 = λ x. Outcome s t writes' x start end memory memory' write_replies replies in
-      let R : List Reply → Type 0 = λ x. Outcome s t writes' calls' start end memory memory' x replies in
-      let S : List Reply → Type 0 = λ x. Outcome s t writes' calls' start end memory memory' write_replies' x in
-      subst S er (subst R elr (subst Q ec (subst P el h)))

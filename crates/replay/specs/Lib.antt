@@ -2,3 +2,4 @@ pub mod Answers
 pub mod Model
 pub mod Runs
 pub mod Promise
+pub mod Printed

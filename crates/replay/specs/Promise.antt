@@ -11,12 +11,11 @@ use Rattle.sector.specs.Bodies.{Closed}
 use Rattle.sector.specs.Opening.{Contents, SameFrom}
 use Rattle.sector.specs.Fillings.{lost_at, lost_count}
 use Rattle.sector.specs.declared.terms.Terms.{Terms}
-use Rattle.replay.specs.Answers.{answer_of}
+use Rattle.replay.specs.Answers.{Reply, answer_of}
 use Rattle.replay.specs.Model.{data_after, unwritten, write_answers, closed_block, call_answer, call_after, memory_after, call_answers, contents_after, memory_at_end, AllFair, part_of, with_part}
 use Rattle.replay.specs.declared.script.RowWrite.{RowWrite}
 use Rattle.replay.specs.declared.script.Call.{Call}
 use Rattle.replay.specs.declared.script.Call.TheVariants.{Read, Repair}
-use Rattle.replay.specs.declared.script.Reply.{Reply}
 
 -- the terms of a sector of this layout and track pair
 abbrev pub terms_of : Layout → ℕ → Terms

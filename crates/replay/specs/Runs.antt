@@ -1,7 +1,7 @@
 -- What one call of a run, and a list of calls, may answer and leave: each by the contract of the call that it makes.
 use Rattle.std.specs.Prelude.{◌≡◌, ℕ, ◌<◌, Bool, List, [], ◌∷◌, length, replicate, Some, None, MatchBool}
+use Rattle.byte_string.specs.Bytes.{Bytes}
 use Rattle.field.specs.Systems.{System}
-use Rattle.grid.specs.Packing.{Bytes}
 use Rattle.store.specs.Store.{Store, at}
 use Rattle.block.specs.Layouts.{row_count, data_rows}
 use Rattle.sector.specs.Answers.{Answer, taken}

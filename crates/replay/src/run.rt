@@ -6,23 +6,13 @@ ghost use Rattle.replay.specs.Answers.{answer_of};
 ghost use Rattle.replay.specs.Runs.{Applied, Ran, WritingAll, ReadPart};
 ghost use Rattle.replay.specs.Promise.{Promise, Unfit, terms_of, shared};
 
-use crate::script::{Call, Reply, RowWrite};
+use crate::script::{Call, Outcome, RowWrite};
 use block::layout::Layout;
 use field::Field;
 use sector::closed::ClosedSector;
 use sector::open::{OpenSector, open};
 use sector::refusal::Refusal;
 use store::BlockStore;
-
-// The reply of a call that tells nothing.
-fn told(answer: Result<(), Refusal>) -> Reply
-    ensures { answer_of result ≡ answer_done answer }
-{
-    match answer {
-        Ok(()) => Reply::Done,
-        Err(refusal) => Reply::Refused(refusal),
-    }
-}
 
 // Reads a data row into a part of the memory, or into no bytes where there is no such part.
 fn read_part<F: Field, S: BlockStore>(
@@ -31,14 +21,14 @@ fn read_part<F: Field, S: BlockStore>(
     from: usize,
     to: usize,
     memory: &mut [u8],
-) -> Reply
-    ensures { ReadPart F.NumberSystem.system sector.now.terms (S.BlockStore.store sector.now.store) memory.old row from to (answer_of result) memory.new }
+) -> Result<(), Refusal>
+    ensures { ReadPart F.NumberSystem.system sector.now.terms (S.BlockStore.store sector.now.store) memory.old row from to (answer_done result) memory.new }
 {
     if from <= to && to <= memory.len() {
-        return told(sector.read(row, &mut memory[from..to]));
+        sector.read(row, &mut memory[from..to])
+    } else {
+        sector.read(row, &mut [])
     }
-    let mut nothing = [0u8; 0];
-    told(sector.read(row, &mut nothing))
 }
 
 /// Makes one call, and says what it answered.
@@ -46,88 +36,79 @@ pub fn apply<F: Field, S: BlockStore>(
     sector: &mut ClosedSector<F, S>,
     call: &Call<'_>,
     memory: &mut [u8],
-) -> Reply
+) -> Result<Outcome, Refusal>
     ensures applied { Applied F.NumberSystem.system sector.old.terms (S.BlockStore.store sector.old.store) memory.old call.now (answer_of result) (S.BlockStore.store sector.new.store) memory.new }
     ensures terms { sector.new.terms ≡ sector.old.terms }
 {
-    match call {
-        Call::PutBlock { row, block } => told(sector.put_block(*row, block)),
-        Call::Erase { row } => told(sector.erase(*row)),
-        Call::Check { row } => match sector.check(*row) {
-            Ok(condition) => Reply::Found(condition),
-            Err(refusal) => Reply::Refused(refusal),
-        },
-        Call::Read { row, from, to } => read_part(sector, *row, *from, *to, memory),
-        Call::Repair => match sector.repair() {
-            Ok(count) => Reply::Repaired(count),
-            Err(refusal) => Reply::Refused(refusal),
-        },
+    match *call {
+        Call::PutBlock { row, block } => sector.put_block(row, block).map(|()| Outcome::Done),
+        Call::Erase { row } => sector.erase(row).map(|()| Outcome::Done),
+        Call::Check { row } => sector.check(row).map(Outcome::Found),
+        Call::Read { row, from, to } => {
+            read_part(sector, row, from, to, memory).map(|()| Outcome::Done)
+        }
+        Call::Repair => sector.repair().map(Outcome::Repaired),
     }
 }
 
-// Makes the calls in turn, and puts down each reply at the call's place.
+// Makes the calls that there is room to reply to in turn, and puts down each reply at the call's place.
 fn run_calls<F: Field, S: BlockStore>(
     sector: &mut ClosedSector<F, S>,
     calls: &[Call<'_>],
-    replies: &mut [Reply],
+    replies: &mut [Result<Outcome, Refusal>],
     memory: &mut [u8],
 )
-    requires { length replies.old ≡ length calls.now }
-    ensures ran { Ran F.NumberSystem.system sector.old.terms (S.BlockStore.store sector.old.store) memory.old calls.now (map answer_of replies.new) (S.BlockStore.store sector.new.store) memory.new }
+    ensures ran { Ran F.NumberSystem.system sector.old.terms (S.BlockStore.store sector.old.store) memory.old (take (shared calls.now replies.old) calls.now) (map answer_of (take (shared calls.now replies.old) replies.new)) (S.BlockStore.store sector.new.store) memory.new }
+    ensures rest { drop (shared calls.now replies.old) replies.new ≡ drop (shared calls.now replies.old) replies.old }
     ensures terms { sector.new.terms ≡ sector.old.terms }
 {
-    for (i, call) in calls.iter().enumerate() {
+    let n = calls.len().min(replies.len());
+    // by index, since a proof keeps no write that is made through a `zip` of `iter_mut`
+    for (i, call) in calls[..n].iter().enumerate() {
         replies[i] = apply(sector, call, memory);
     }
 }
 
-// Writes the rows in turn, and puts down each reply at the write's place.
+// Writes the rows that there is room to reply to in turn, and puts down each reply at the write's place. It is no instance of one
+// function with `run_calls`: the sector's type, the call and the relation that is kept are others.
 fn write_all<F: Field, S: BlockStore>(
     sector: &mut OpenSector<F, S>,
     writes: &[RowWrite<'_>],
-    replies: &mut [Reply],
+    replies: &mut [Result<Outcome, Refusal>],
 )
-    requires many { length replies.old ≡ length writes.now }
-    requires marks { length sector.old.marks ≡ 149 }
-    ensures marks { WritingAll F.NumberSystem.system sector.old.terms writes.now (S.BlockStore.store sector.old.store) (S.BlockStore.store sector.new.store) sector.old.marks sector.new.marks (map answer_of replies.new) }
+    requires { length sector.old.marks ≡ 149 }
+    ensures marks { WritingAll F.NumberSystem.system sector.old.terms (take (shared writes.now replies.old) writes.now) (S.BlockStore.store sector.old.store) (S.BlockStore.store sector.new.store) sector.old.marks sector.new.marks (map answer_of (take (shared writes.now replies.old) replies.new)) }
+    ensures rest { drop (shared writes.now replies.old) replies.new ≡ drop (shared writes.now replies.old) replies.old }
     ensures terms { sector.new.terms ≡ sector.old.terms }
 {
-    for (i, write) in writes.iter().enumerate() {
-        replies[i] = told(sector.write(write.row, write.bytes));
+    let n = writes.len().min(replies.len());
+    // by index, as above
+    for (i, write) in writes[..n].iter().enumerate() {
+        replies[i] = sector.write(write.row, write.bytes).map(|()| Outcome::Done);
     }
 }
 
 /// A whole run: opens a sector over the store, writes the rows, closes it, makes the calls, and gives back the store. As many writes
 /// and calls are made as there is room for their replies.
+// The replies stand in slices of their own, since no memory is taken to give them back in. Layout and track pair are as `open` has them.
 pub fn run<F: Field + Copy, S: BlockStore>(
     layout: Layout,
     pair: u8,
     field: F,
     store: S,
     writes: &[RowWrite<'_>],
-    write_replies: &mut [Reply],
+    write_replies: &mut [Result<Outcome, Refusal>],
     calls: &[Call<'_>],
-    replies: &mut [Reply],
+    replies: &mut [Result<Outcome, Refusal>],
     memory: &mut [u8],
 ) -> S
     ensures promise { fits F.NumberSystem.system (terms_of layout pair) (S.BlockStore.store store) ≡ true → Promise F.NumberSystem.system (terms_of layout pair) (take (shared writes.now write_replies.old) writes.now) (take (shared calls.now replies.old) calls.now) (S.BlockStore.store store) (S.BlockStore.store result) memory.old memory.new (take (shared writes.now write_replies.old) write_replies.new) (take (shared calls.now replies.old) replies.new) }
     ensures unfit { fits F.NumberSystem.system (terms_of layout pair) (S.BlockStore.store store) ≡ false → Unfit F.NumberSystem.system (terms_of layout pair) (S.BlockStore.store store) (S.BlockStore.store result) memory.old memory.new (take (shared writes.now write_replies.old) write_replies.new) (take (shared calls.now replies.old) replies.new) }
     ensures rest { (drop (shared writes.now write_replies.old) write_replies.new ≡ drop (shared writes.now write_replies.old) write_replies.old) × (drop (shared calls.now replies.old) replies.new ≡ drop (shared calls.now replies.old) replies.old) }
 {
-    let write_count = writes.len().min(write_replies.len());
-    let call_count = calls.len().min(replies.len());
     let (mut sector, token) = open(layout, pair, field, store);
-    write_all(
-        &mut sector,
-        &writes[0..write_count],
-        &mut write_replies[0..write_count],
-    );
+    write_all(&mut sector, writes, write_replies);
     let mut closed = sector.close(token);
-    run_calls(
-        &mut closed,
-        &calls[0..call_count],
-        &mut replies[0..call_count],
-        memory,
-    );
+    run_calls(&mut closed, calls, replies, memory);
     closed.into_store()
 }

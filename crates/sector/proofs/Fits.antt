@@ -3,25 +3,12 @@ use Rattle.std.proofs.Common.{◌≡◌, ℕ, ◌-◌, ◌/◌, ◌<◌, ◌≤�
 use Rattle.std.proofs.lemmas.Bool.{ltb-true, leb-true, eqb-true, lt-ltb, le-ltb, le-leb, eq-eqb, and_parts, and_from, and_right}
 use Rattle.field.specs.Systems.{System}
 use Rattle.grid.specs.Grids.{row_symbols}
-use Rattle.grid.proofs.Fitting.{over, under}
+use Rattle.grid.proofs.Fitting.{over}
 use Rattle.store.specs.Store.{Store}
 use Rattle.block.specs.Layouts.{shape_of, row_count, body_bytes, block_width}
-use Rattle.sector.specs.Answers.{Answer, taken, refused, refusal_of, guarded, is_taken}
+use Rattle.sector.specs.Answers.{Answer, taken, refused, guarded, is_taken}
 use Rattle.sector.specs.Terms.{Fits, fitted, fits}
-use Rattle.sector.specs.declared.refusal.Refusal.{Refusal}
-use Rattle.sector.specs.declared.refusal.Refusal.TheVariants.{Pair, Places, Width, Symbols, Row, Length, Lost, NoContents}
 use Rattle.sector.specs.declared.terms.Terms.{Terms}
-
--- a refusal is no answer that is taken
-pub refusal_taken : (e : Refusal) → is_taken (refusal_of e) ≡ false
-refusal_taken Pair = refl
-refusal_taken Places = refl
-refusal_taken Width = refl
-refusal_taken Symbols = refl
-refusal_taken Row = refl
-refusal_taken Length = refl
-refusal_taken (Lost n) = refl
-refusal_taken NoContents = refl
 
 not_both : (b : Bool) → b ≡ true → b ≡ false → ⊥
 not_both b x y = let z : true ≡ false = sym x ∙ y in let w : ◌≡◌ {A = ℕ} 0 1 = cc in omega arith
@@ -129,16 +116,6 @@ module _ (s : System) (t : Terms) (st : Store) where
   pub fits_true : Fits s t st → fits s t st ≡ true
   fits_true f = ap is_taken (fitted_is f (taken []))
 
-  pub misfit : (e : Refusal) → refusal_of e ≡ fitted s t st (taken []) → (a : Answer) → fitted s t st a ≡ refusal_of e
-  misfit e h a = go fitted_cases
-    where
-      go : Fits s t st ⊎ ((k : ℕ) × ((a : Answer) → fitted s t st a ≡ refused k [])) → fitted s t st a ≡ refusal_of e
-      go (inl f) = absurd (not_both true refl (sym (ap is_taken (h ∙ fitted_is f (taken []))) ∙ refusal_taken e))
-      go (inr m) = m.1 a ∙ sym (h ∙ m.1 (taken []))
-
-  pub fits_false : (e : Refusal) → refusal_of e ≡ fitted s t st (taken []) → fits s t st ≡ false
-  fits_false e h = ap is_taken (sym h) ∙ refusal_taken e
-
   -- the tests as they are made, with bb for the bytes of a body, q for the order and m for the symbols in a byte
   module _ (bb q m : ℕ) (eb : bb ≡ body_bytes t.layout) (eq : q ≡ s.order) (em : m ≡ s.per) (pair : t.pair ≤ 11) (room : row_count t.layout ≤ st.places)
       (wide : st.width ≡ block_width t.layout) where
@@ -148,22 +125,3 @@ module _ (s : System) (t : Terms) (st : Store) where
         sym
         (misfit_symbols (taken []) (le-leb t.pair 11 pair) (le-leb (row_count t.layout) st.places room) (eq-eqb st.width (block_width t.layout) wide)
         (and_right (ltb (row_count t.layout) s.order) (ltb (row_symbols s (shape_of t.layout)) s.order) (le-ltb (row_symbols s (shape_of t.layout)) s.order l)))
-
-    pub all_fit : row_count t.layout < q → bb ≤ (q - 1) / m → Fits s t st
-    all_fit few h = record {
-      pair = pair;
-      room = room;
-      wide = wide;
-      few = subst (λ n. row_count t.layout < n) eq few;
-      short = under s (body_bytes t.layout) q m eq em (subst (λ n. n ≤ (q - 1) / m) eb h);
-    }
-
--- another store with as many places and the same width fits as well
-pub fits_like : (s : System) (t : Terms) (st new : Store) → new.places ≡ st.places → new.width ≡ st.width → Fits s t st → Fits s t new
-fits_like s t st new ep ew f = record {
-  pair = f.pair;
-  room = subst (λ n. row_count t.layout ≤ n) (sym ep) f.room;
-  wide = ew ∙ f.wide;
-  few = f.few;
-  short = f.short;
-}

@@ -1,17 +1,18 @@
 -- The bodies of a sector kept one after another in one byte string.
-use Rattle.std.proofs.Common.{◌≡◌, ℕ, ◌+◌, ◌-◌, ◌*◌, ◌/◌, ◌%◌, ◌<◌, ◌≤◌, ◌≢◌, List, [], map, length, get_or, take, drop, Ok, sym, ap, ◌∙◌, subst, ap₂, ⊎_elim, mul-le-mul_right, mod-lt, mul_assoc, add-mul, one-mul, div-add-mod', mul-one, arith, length-drop, length-take-le, get_or-drop, get_or-take, rules}
+use Rattle.std.proofs.Common.{◌≡◌, ℕ, ◌+◌, ◌-◌, ◌*◌, ◌/◌, ◌%◌, ◌<◌, ◌≤◌, ◌≢◌, List, [], map, length, get_or, take, drop, Ok, sym, ap, ◌∙◌, subst, ap₂, ⊎_elim, mul-le-mul_right, mod-lt, mul_assoc, add-mul, one-mul, div-add-mod', mul-one, arith, length-drop, length-take-le, get_or-drop, get_or-take}
 use borrow.Rule.Slice.PartMut.{put_mid}
 use lib.Arith.{digits_div, digits_mod}
 use lib.ListN.{length-map}
-use Rattle.std.proofs.lemmas.List.{ext_get_or, get_or-map, drop-take, take-take, places}
+use Rattle.std.proofs.lemmas.List.{ext_get_or, get_or-map, drop-take, take-take}
 use Rattle.std.proofs.lemmas.List.FromFn.{length-map-range_with_len, get_or-map-range_with_len}
 use Rattle.std.proofs.lemmas.Slice.{take-put_mid_below, drop-put_mid, between-put_mid}
 use Rattle.std.proofs.lemmas.Bool.{cases_order}
+use Rattle.byte_string.specs.Bytes.{Bytes}
 use Rattle.field.specs.Systems.{System, Symbol, symbol}
 use Rattle.field.proofs.Sizes.{per_some}
 use Rattle.code.specs.Codewords.{Symbols, Codeword, symbols}
-use Rattle.store.proofs.Bytes.{bytes_drop, bytes_take}
-use Rattle.grid.specs.Packing.{Bytes, part, symbol_at, unpacked}
+use Rattle.byte_string.proofs.Bytes.{bytes_drop, bytes_take}
+use Rattle.grid.specs.Packing.{part, symbol_at, unpacked}
 use Rattle.grid.specs.Grids.{row_symbols, data_symbols, check_symbols, fitting, row, column, RowsEncoded, ColumnsEncoded}
 use Rattle.grid.proofs.Parts.{length_unpacked, get_or_unpacked, symbols_tell, byte_of}
 use Rattle.grid.proofs.Fitting.{right_length, parts_of_row}
@@ -52,10 +53,6 @@ pub length_part : (l : Layout) (W : List ℕ) (r n : ℕ) → length W ≡ row_c
 unfolding body_at
 length_part l W r n long h e = ap length (part_is l W r n e) ∙ length_body l W r long h
 
-pub get_or_body : (l : Layout) (W : List ℕ) (r i : ℕ) → i < body_bytes l → get_or (body_at l W r) i 0 ≡ get_or W (r * body_bytes l + i) 0
-unfolding body_at
-get_or_body l W r i h = get_or-take (body_bytes l) (drop (r * body_bytes l) W) i 0 h ∙ get_or-drop (r * body_bytes l) W i 0
-
 pub length_bodies : (l : Layout) (W : List ℕ) → length (bodies_of l W) ≡ row_count l
 length_bodies l W = length-map-range_with_len (body_at l W) 0 (row_count l)
 
@@ -67,9 +64,6 @@ module _ (l : Layout) (W b : List ℕ) (r a k : ℕ) (long : length W ≡ row_co
     (lb : length b ≡ k) (few : k ≤ body_bytes l) where
   in_bounds : a + body_bytes l ≤ length W
   in_bounds = subst (λ n. n + body_bytes l ≤ length W) (sym ea) (body_within l W r long h)
-
-  pub length_put : length (put_mid a k W b) ≡ length W
-  length_put = let w = in_bounds in search (rules, places)
 
   pub body_front : take k (body_at l (put_mid a k W b) r) ≡ b
   unfolding body_at

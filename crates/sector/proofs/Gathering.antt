@@ -1,46 +1,12 @@
--- The data bytes of rows as they are collected: from a block, or filler.
-use Rattle.std.proofs.Common.{◌≡◌, ℕ, ◌+◌, ◌-◌, ◌*◌, ◌<◌, ◌≤◌, cond, eqb, ltb, List, length, take, drop, replicate, Some, None, Option, unwrap_or, sym, ap, ◌∙◌, subst, arith, lit≤, length-drop, length-take-le}
+-- The data bytes of rows as they are collected.
+use Rattle.std.proofs.Common.{◌≡◌, ℕ, ◌+◌, ◌-◌, ◌*◌, ◌<◌, ◌≤◌, List, length, take, drop, sym, ap, ◌∙◌, subst, arith, length-drop, length-take-le}
 use native.Mathlib.Decide.{ℕ_discrete}
 use borrow.Rule.Slice.PartMut.{put_mid}
-use Rattle.std.proofs.lemmas.List.{take-replicate, drop-replicate, take-take, length-replicate}
-use Rattle.std.proofs.lemmas.Bool.{cond-true, lt-ltb, eq-eqb}
-use Rattle.store.specs.Store.{Store, at, get_after}
-use Rattle.block.specs.Layouts.{row_count, data_rows, data_bytes, body_bytes, block_width}
+use Rattle.std.proofs.lemmas.List.{take-take}
+use Rattle.block.specs.Layouts.{row_count, data_rows, data_bytes, body_bytes}
 use Rattle.block.specs.declared.layout.Layout.{Layout}
-use Rattle.block.specs.declared.layout.Layout.TheVariants.{Audio, Video, Subcode}
-use Rattle.sector.specs.Opening.{filler, data_in}
 use Rattle.sector.specs.Flat.{body_at}
 use Rattle.sector.proofs.Flat.{body_within, body_front, body_other}
-
--- the widest block
-pub block_narrow : (l : Layout) → block_width l ≤ 88
-block_narrow Audio = lit≤ tt
-block_narrow Video = lit≤ tt
-block_narrow Subcode = lit≤ tt
-
-module _ (l : Layout) (n k : ℕ) (en : n ≡ data_bytes l) (ek : k ≡ block_width l) where
-  -- the data bytes of a room of filler
-  pub filler_part : take (3 + n - 3) (drop 3 (take k (replicate 88 255))) ≡ filler l
-  filler_part =
-      let w = block_narrow l in
-      ap (λ (x : List ℕ). take (3 + n - 3) (drop 3 x)) (take-replicate k 88 255 (omega arith)) ∙ ap (take (3 + n - 3)) (drop-replicate 3 k 255)
-      ∙ take-replicate (3 + n - 3) (k - 3) 255 (omega arith) ∙ ap (λ m. replicate {A = ℕ} m 255) (let z : 3 + n - 3 ≡ data_bytes l = omega arith in z)
-
-  -- the data bytes of a room of filler to which the block of a place was copied
-  pub loaded_part : (st : Store) (row : ℕ) (block : List ℕ) → row < st.places → st.width ≡ block_width l → block ≡ get_after st row (take k (replicate 88 255))
-      → take (3 + n - 3) (drop 3 block) ≡ data_in l (at st row)
-  loaded_part st row block h ew e =
-      let w = block_narrow l in
-      let room : List ℕ = take k (replicate 88 255) in
-      let long : length room ≡ st.width = length-take-le k (replicate {A = ℕ} 88 255) (omega (arith, length-replicate {A = ℕ} 88 255)) ∙ ek ∙ sym ew in
-      ap (λ (x : List ℕ). take (3 + n - 3) (drop 3 x))
-      (e ∙ cond-true (ltb row st.places) (cond (eqb (length room) st.width) (unwrap_or (at st row) room) room) room (lt-ltb row st.places h)
-      ∙ cond-true (eqb (length room) st.width) (unwrap_or (at st row) room) room (eq-eqb (length room) st.width long))
-      ∙ go (at st row)
-    where
-      go : (o : Option (List ℕ)) → take (3 + n - 3) (drop 3 (unwrap_or o (take k (replicate 88 255)))) ≡ data_in l o
-      go None = filler_part
-      go (Some b) = ap (λ m. take m (drop 3 b)) (let z : 3 + n - 3 ≡ data_bytes l = omega arith in z)
 
 -- one more row's data bytes are written, to the front of its body
 module _ (l : Layout) (f : ℕ → List ℕ) (W b : List ℕ) (r n d : ℕ) (long : length W ≡ row_count l * body_bytes l) (h : r < data_rows l) (en : n ≡ body_bytes l) (ed : d ≡ data_bytes l)

@@ -1,11 +1,11 @@
 -- What the correction of a body says of it.
-use Rattle.std.proofs.Common.{◌≡◌, ℕ, ◌-◌, ◌*◌, ◌<◌, ◌≤◌, true, false, cond, ltb, List, [], length, get_or, drop, set, Some, Ok, Err, MatchBool, Option, Result, unwrap_or, sym, ap, ◌∙◌, subst, mul-le-mul, arith}
+use Rattle.std.proofs.Common.{◌≡◌, ℕ, ◌-◌, ◌*◌, ◌<◌, ◌≤◌, true, false, ltb, List, length, get_or, set, Some, Ok, Err, MatchBool, Result, sym, ap, ◌∙◌, subst, mul-le-mul, arith, MatchResult}
 use lib.ListN.{length-map}
 use Rattle.std.proofs.lemmas.List.{map-set, get_or-map}
 use Rattle.std.proofs.lemmas.Bool.{le-ltb}
 use Rattle.field.specs.Systems.{System, symbol}
 use Rattle.field.proofs.Sizes.{per_some}
-use Rattle.code.specs.Codewords.{Symbols, symbols}
+use Rattle.code.specs.Codewords.{symbols}
 use Rattle.code.specs.Acceptance.{Correction}
 use Rattle.code.specs.declared.correct.Verdict.{Verdict}
 use Rattle.code.specs.declared.correct.Verdict.TheVariants.{Clean as Intact, Corrected as Changed, OutOfReach as Beyond}
@@ -16,15 +16,13 @@ use Rattle.grid.specs.Answers.{RowCorrection, BytesCorrected}
 use Rattle.grid.specs.Grids.{row_symbols, check_symbols}
 use Rattle.grid.proofs.Parts.{length_unpacked}
 use Rattle.block.specs.Layouts.{shape_of, body_bytes}
-use Rattle.block.specs.Identification.{right_id}
-use Rattle.block.specs.Conditions.{symbols_in, judgement, body_condition}
+use Rattle.block.specs.Conditions.{condition_of, symbols_in, judgement}
 use Rattle.block.specs.declared.layout.Layout.{Layout}
 use Rattle.block.specs.declared.layout.Layout.TheVariants.{Audio, Video, Subcode}
 use Rattle.block.specs.declared.condition.Condition.{Condition}
-use Rattle.block.specs.declared.condition.Condition.TheVariants.{WrongId}
+use Rattle.block.specs.declared.condition.Condition.TheVariants.{OutOfReach}
 use Rattle.block.proofs.Judging.{judged_clean, judged_corrected, judged_out}
-use Rattle.sector.specs.Judgements.{corrected, BodyJudged, RowJudged}
-use Rattle.sector.specs.declared.terms.Terms.{Terms}
+use Rattle.sector.specs.Judgements.{corrected, BodyJudged}
 
 -- a row of every layout has two check bytes or more
 two_checks : (l : Layout) → 2 ≤ (shape_of l).check_bytes
@@ -96,17 +94,7 @@ module _ (s : System) (l : Layout) where
         let fixed : BytesCorrected s C old new r = subst (λ b. MatchBool b ((r ≡ Err TooManyChecks) × (new ≡ old)) (BytesCorrected s C old new r)) taken here in
         subst (BodyJudged s l old new) (sym is) (by_verdict r fixed.symbols)
 
--- a block under a wrong identification
-pub row_wrong : (s : System) (t : Terms) (row : ℕ) (block body : List ℕ) → right_id t.layout t.pair row block ≡ false → RowJudged s t row (Some block) body WrongId
-row_wrong s t row block body wrong = record {
-  is = sym (ap (λ b. cond b (body_condition s (check_symbols s (shape_of t.layout)) (drop 3 block)) WrongId) wrong);
-  word = λ e. absurd (let z : ◌≡◌ {A = ℕ} 0 1 = cc in let n : ⊥ = omega arith in n);
-}
-
--- a block under a right identification is judged by its body
-pub row_right : (s : System) (t : Terms) (row : ℕ) (block body : List ℕ) (c : Condition) → right_id t.layout t.pair row block ≡ true
-    → BodyJudged s t.layout (drop 3 block) body c → RowJudged s t row (Some block) body c
-row_right s t row block body c right j = record {
-  is = j.is ∙ sym (ap (λ b. cond b (body_condition s (check_symbols s (shape_of t.layout)) (drop 3 block)) WrongId) right);
-  word = λ e. ap (λ (o : Option (Symbols s)). unwrap_or o []) (j.word e);
-}
+-- the condition that is made from a correction
+pub corrected_is : (r : Result Verdict CodeError) (c : Condition) → MatchResult r (λ v. c ≡ condition_of v) (λ _. c ≡ OutOfReach) → c ≡ corrected r
+corrected_is (Ok v) c h = h
+corrected_is (Err e) c h = h

@@ -3,14 +3,12 @@ pub mod Fronts
 pub mod Words
 pub mod Uniqueness
 pub mod Fits
-pub mod Blocks
 pub mod Flat
 pub mod OneRow
 pub mod Rowwise
 pub mod Gathering
 pub mod Opened
 pub mod Judging
-pub mod Places
 pub mod Survey
 pub mod Recovery
 pub mod Reading

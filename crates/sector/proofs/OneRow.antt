@@ -2,11 +2,12 @@
 use Rattle.std.proofs.Common.{◌≡◌, ℕ, ◌+◌, ◌*◌, ◌<◌, ◌≤◌, List, ◌++◌, length, get_or, take, Ok, Result, sym, ap, ◌∙◌, subst, zero-mul, mul-one, arith, lit<, length-append, length-drop, length-take-le, MatchResult}
 use borrow.Rule.Slice.PartMut.{post_of}
 use Rattle.std.proofs.lemmas.List.{ext_get_or, take_at}
+use Rattle.byte_string.specs.Bytes.{Bytes}
 use Rattle.field.specs.Systems.{System}
 use Rattle.code.specs.Codewords.{Codeword, symbols}
 use Rattle.code.specs.declared.error.CodeError.{CodeError}
-use Rattle.store.proofs.Bytes.{bytes_take}
-use Rattle.grid.specs.Packing.{Bytes, symbol_at, unpacked}
+use Rattle.byte_string.proofs.Bytes.{bytes_take}
+use Rattle.grid.specs.Packing.{symbol_at, unpacked}
 use Rattle.grid.specs.Grids.{row_symbols, data_symbols, check_symbols, fitting, row, RowsEncoded}
 use Rattle.grid.specs.declared.shape.Shape.{Shape}
 use Rattle.grid.proofs.Parts.{length_unpacked, get_or_unpacked, symbols_tell}

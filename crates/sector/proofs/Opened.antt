@@ -2,10 +2,10 @@
 use Rattle.std.proofs.Common.{◌≡◌, ℕ, ◌-◌, ◌*◌, ◌<◌, ◌≤◌, Bool, true, false, cond, eqb, ltb, List, [], length, get_or, take, drop, replicate, Some, Ok, MatchBool, Result, sym, ap, ◌∙◌, subst, arith, get_or-take, MatchResult}
 use Rattle.std.proofs.lemmas.List.{take-take, get_or-replicate}
 use Rattle.std.proofs.lemmas.Bool.{lt-ltb, eq-eqb}
+use Rattle.byte_string.specs.Bytes.{Bytes}
 use Rattle.field.specs.Systems.{System}
 use Rattle.code.specs.declared.error.CodeError.{CodeError}
 use Rattle.store.specs.Store.{Store, at}
-use Rattle.grid.specs.Packing.{Bytes}
 use Rattle.grid.specs.Grids.{fitting, RowsEncoded, ColumnsEncoded}
 use Rattle.grid.specs.declared.shape.Shape.{Shape}
 use Rattle.block.specs.Layouts.{shape_of, row_count, data_rows, data_bytes, body_bytes}

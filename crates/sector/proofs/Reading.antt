@@ -1,10 +1,10 @@
 -- What a read answers, by what was worked out.
-use Rattle.std.proofs.Common.{◌≡◌, ℕ, ◌+◌, ◌-◌, ◌*◌, ◌<◌, ◌≤◌, Bool, true, false, List, [], ◌∷◌, length, take, drop, Ok, Err, sym, refl, ap, ◌∙◌, subst, inl, inr, arith, length-take-le}
+use Rattle.std.proofs.Common.{◌≡◌, ℕ, ◌+◌, ◌-◌, ◌*◌, ◌<◌, ◌≤◌, Bool, true, false, List, [], length, take, drop, Ok, sym, refl, ap, ◌∙◌, subst, inl, arith, length-take-le}
 use Rattle.std.proofs.lemmas.List.{take-take}
 use Rattle.std.proofs.lemmas.Bool.{both_ways}
+use Rattle.byte_string.specs.Bytes.{Bytes}
 use Rattle.field.specs.Systems.{System}
 use Rattle.code.specs.Codewords.{Symbols}
-use Rattle.grid.specs.Packing.{Bytes}
 use Rattle.grid.specs.Grids.{data_symbols}
 use Rattle.store.specs.Store.{Store, at}
 use Rattle.block.specs.Layouts.{shape_of, row_count, data_bytes, body_bytes}
@@ -12,14 +12,12 @@ use Rattle.block.specs.Conditions.{is_lost, symbols_in}
 use Rattle.block.specs.declared.condition.Condition.{Condition}
 use Rattle.block.specs.declared.layout.Layout.{Layout}
 use Rattle.block.specs.declared.layout.Layout.TheVariants.{Audio, Video, Subcode}
-use Rattle.sector.specs.Answers.{taken, refused, refusal_of}
+use Rattle.sector.specs.Answers.{taken}
 use Rattle.sector.specs.Flat.{body_at}
 use Rattle.sector.specs.Fillings.{lost_at}
 use Rattle.sector.specs.Judgements.{RowJudged}
 use Rattle.sector.specs.Recovery.{data_of, Recovered}
 use Rattle.sector.specs.Closing.{Holds, Reads}
-use Rattle.sector.specs.declared.refusal.Refusal.{Refusal}
-use Rattle.sector.specs.declared.refusal.Refusal.TheVariants.{Pair, Places, Width, Symbols as TooFewSymbols, Row, Length, Lost, NoContents}
 use Rattle.sector.specs.declared.terms.Terms.{Terms}
 use Rattle.sector.proofs.Flat.{length_body}
 use Rattle.sector.proofs.Recovery.{row_of}
@@ -66,25 +64,6 @@ module _ (s : System) (t : Terms) where
         }
 
     module _ (lost : lost_at s t (at st) row ≡ true) (flat : List ℕ) (broken : List Bool) where
-      -- a lost row that cannot be had
-      pub read_refused : (e : Refusal) → Recovered s t (at st) flat broken (Err e) → Reads s t st row old old (refusal_of e)
-      read_refused (Lost n) h = record {
-        direct = λ k. absurd (both_ways (lost_at s t (at st) row) k lost);
-        over = λ _ _. (ap (λ k. refused 9 (k ∷ [])) h.1, refl);
-        filled = λ _ k. absurd (let l = h.0 in let z : ⊥ = omega arith in z);
-      }
-      read_refused NoContents h = record {
-        direct = λ k. absurd (both_ways (lost_at s t (at st) row) k lost);
-        over = λ _ k. absurd (let l = h.0 in let z : ⊥ = omega arith in z);
-        filled = λ _ _. inr (h.1, refl, refl);
-      }
-      read_refused Pair h = absurd h
-      read_refused Places h = absurd h
-      read_refused Width h = absurd h
-      read_refused TooFewSymbols h = absurd h
-      read_refused Row h = absurd h
-      read_refused Length h = absurd h
-
       -- a lost row that is filled
       pub read_filled : (new : List ℕ) → length flat ≡ row_count t.layout * body_bytes t.layout → row < row_count t.layout
           → Recovered s t (at st) flat broken (Ok tt) → new ≡ take (data_bytes t.layout) (body_at t.layout flat row) → Bytes new → Reads s t st row old new (taken [])

@@ -1,5 +1,5 @@
 -- Filling the lost rows of bodies that were looked at.
-use Rattle.std.proofs.Common.{◌≡◌, ℕ, ◌+◌, ◌-◌, ◌*◌, ◌<◌, ◌≤◌, Bool, false, cond, not, eqb, leb, List, [], length, get_or, take, drop, is_ok, Ok, Err, Result, sym, ap, ◌∙◌, subst, arith, length-drop, length-take-le, get_or-take}
+use Rattle.std.proofs.Common.{◌≡◌, ℕ, ◌+◌, ◌-◌, ◌*◌, ◌<◌, ◌≤◌, Bool, true, false, cond, not, eqb, leb, List, [], length, get_or, take, drop, is_ok, Ok, Err, Result, MatchResult, refl, sym, ap, ◌∙◌, subst, arith, length-drop, length-take-le, get_or-take}
 use lib.ListN.{length-map}
 use Rattle.std.proofs.lemmas.List.{ext_get_or, get_or-map}
 use Rattle.std.proofs.lemmas.List.FromFn.{length-map-range_with_len, get_or-map-range_with_len, fill_by_all}
@@ -10,7 +10,7 @@ use Rattle.code.specs.declared.error.CodeError.{CodeError}
 use Rattle.code.specs.declared.error.CodeError.TheVariants.{UnequalLengths, TooLong, TooFewChecks, TooManyChecks, TooManyUnknown, NoCodeword}
 use Rattle.grid.specs.Packing.{symbol_at}
 use Rattle.grid.specs.Grids.{row_symbols, data_symbols, column, RowsFilled}
-use Rattle.grid.specs.Lines.{Fillable}
+use Rattle.grid.specs.Fillable.{Fillable}
 use Rattle.grid.specs.Answers.{and_then, loss_reply, RowsFilling, LossAnswer}
 use Rattle.grid.proofs.Fitting.{parts_of_row}
 use Rattle.grid.proofs.LineWork.{length_line}
@@ -23,7 +23,9 @@ use Rattle.sector.specs.Bodies.{column_in}
 use Rattle.sector.specs.Flat.{body_at}
 use Rattle.sector.specs.Opening.{Contents}
 use Rattle.sector.specs.Fillings.{condition_at, lost_at, lost_count, Filling, NoFilling}
-use Rattle.sector.specs.Recovery.{lost_rows, broken_rows, Surveyed, data_of}
+use Rattle.sector.specs.Recovery.{lost_rows, broken_rows, Surveyed, Recovered, data_of}
+use Rattle.sector.specs.declared.refusal.Refusal.{Refusal}
+use Rattle.sector.specs.declared.refusal.Refusal.TheVariants.{NoContents}
 use Rattle.sector.specs.declared.terms.Terms.{Terms}
 use Rattle.sector.proofs.Flat.{length_body, get_or_symbols, get_or_column, flat_fitting}
 use Rattle.sector.proofs.Fronts.{length_column_in, get_or_column_in}
@@ -177,3 +179,11 @@ module _ (s : System) (t : Terms) (P : Contents) where
           broken_are,
           recovered new r b eb enough (subst (λ (x : Shape). LossAnswer s x lost old new (loss_reply s x (length old) lost) r) e h),
         )
+
+    -- the same, as the answer of the recovery
+    pub filled : (sh : Shape) (new : List ℕ) (many : ℕ) (r : Result (Unit {0}) CodeError) (answer : Result (Unit {0}) Refusal) → sh ≡ shape_of t.layout
+        → many ≡ count lost → many ≤ sh.check_rows → LossAnswer s sh lost old new (loss_reply s sh (length old) lost) r
+        → MatchResult r (λ u. answer ≡ Ok u) (λ _. answer ≡ Err NoContents) → Recovered s t P new broken answer
+    filled sh new many (Ok u) answer e em le h is = subst (Recovered s t P new broken) (sym is) (outcome sh new many (Ok u) true e em le h refl)
+    filled sh new many (Err k) answer e em le h is =
+        let end = outcome sh new many (Err k) false e em le h refl in subst (Recovered s t P new broken) (sym is) (end.0, end.2)

@@ -1,11 +1,12 @@
 -- Putting the rows that are flagged, one after another; and what a repair answers.
-use Rattle.std.proofs.Common.{◌≡◌, ℕ, ◌+◌, ◌*◌, ◌<◌, Bool, true, false, cond, not, List, [], ◌∷◌, length, get_or, take, Some, Ok, Err, Option, Result, sym, refl, ap, ◌∙◌, subst, inl, inr, arith, get_or-take, MatchResult}
+use Rattle.std.proofs.Common.{◌≡◌, ℕ, ◌+◌, ◌*◌, ◌<◌, Bool, true, false, cond, not, List, [], ◌∷◌, length, get_or, take, Some, Ok, Err, Option, Result, sym, refl, ap, ◌∙◌, subst, inl, inr, arith, get_or-take, MatchBool, MatchResult}
 use Rattle.std.proofs.lemmas.List.{ext_get_or}
 use Rattle.std.proofs.lemmas.List.FromFn.{get_or-map-range_with_len}
+use Rattle.byte_string.specs.Bytes.{Bytes}
 use Rattle.field.specs.Systems.{System, Symbol, symbol}
 use Rattle.code.specs.Codewords.{Symbols, Codeword, count}
 use Rattle.code.specs.declared.error.CodeError.{CodeError}
-use Rattle.grid.specs.Packing.{Bytes, symbol_at}
+use Rattle.grid.specs.Packing.{symbol_at}
 use Rattle.grid.specs.Grids.{row_symbols, data_symbols, check_symbols, fitting, row, RowsEncoded}
 use Rattle.grid.specs.declared.shape.Shape.{Shape}
 use Rattle.grid.proofs.Fitting.{parts_of_row}
@@ -13,15 +14,17 @@ use Rattle.grid.proofs.LineWork.{length_line}
 use Rattle.store.specs.Store.{Store, at, with_at}
 use Rattle.block.specs.Layouts.{shape_of, row_count, body_bytes}
 use Rattle.block.specs.Conditions.{is_clean, symbols_in}
-use Rattle.sector.specs.Answers.{taken, refused, refusal_of}
+use Rattle.sector.specs.Answers.{Answer, taken, refused, refusal_of}
 use Rattle.sector.specs.Bodies.{Body, block_of}
 use Rattle.sector.specs.Flat.{body_at}
 use Rattle.sector.specs.Fillings.{condition_at}
 use Rattle.sector.specs.Recovery.{data_of, Recovered, RowsWritten}
-use Rattle.sector.specs.Closing.{Rewritten, Repairs}
+use Rattle.sector.specs.Closing.{Rewritten, Repairs, Repairing}
 use Rattle.sector.specs.declared.refusal.Refusal.{Refusal}
 use Rattle.sector.specs.declared.refusal.Refusal.TheVariants.{Pair, Places, Width, Symbols as TooFewSymbols, Row, Length, Lost, NoContents}
 use Rattle.sector.specs.declared.terms.Terms.{Terms}
+use Rattle.sector.specs.Terms.{Fits, fitted}
+use Rattle.sector.proofs.Fits.{fits_true}
 use Rattle.sector.proofs.Flat.{length_body, bytes_body, row_is, get_or_row, get_or_symbols, flat_fitting}
 use Rattle.sector.proofs.Recovery.{row_of, row_long}
 use Rattle.sector.proofs.Rowwise.{Done, done_more, done_kept}
@@ -44,13 +47,18 @@ module _ (t : Terms) (flat : List ℕ) (flags : List Bool) (old : Store) where
   unflagged_more n now d flag =
       done_kept target n old now d (ap (λ b. cond b (Some (block_of t.layout t.pair n (body_at t.layout flat n))) (at old n)) flag)
 
-  pub rows_written : (n : ℕ) (new : Store) → n ≡ row_count t.layout → Done target n old new → RowsWritten t flat flags old new
-  rows_written n new e d =
-      let all = subst (λ k. Done target k old new) e d in
-      record { places = all.done; same = all.same }
-
 module _ (s : System) (t : Terms) (old : Store) where
   -- a repair that cannot be done
+  -- what a repair leaves, where the terms fit
+  pub repairing : (new : Store) (a : Answer) → Fits s t old → Repairs s t old new a → Repairing s t old new a
+  repairing new a f r = subst (λ b. MatchBool b (Repairs s t old new a) ((a ≡ fitted s t old (taken [])) × (new ≡ old))) (sym (fits_true s t old f)) r
+
+  -- what was worked out from a store that is the same
+  pub worked_out : (t' : Terms) (old' : Store) (flat : List ℕ) (broken : List Bool) (r : Result (Unit {0}) Refusal) → t' ≡ t → old' ≡ old
+      → Recovered s t' (at old') flat broken r → Recovered s t (at old) flat broken r
+  worked_out t' old' flat broken r e f h =
+      subst (λ x. Recovered s x (at old) flat broken r) e (subst (λ st. Recovered s t' (at st) flat broken r) f h)
+
   pub repair_refused : (flat : List ℕ) (broken : List Bool) (e : Refusal) → Recovered s t (at old) flat broken (Err e) → Repairs s t old old (refusal_of e)
   repair_refused flat broken (Lost n) h = record {
     over = λ _. (ap (λ k. refused 9 (k ∷ [])) h.1, refl);

@@ -1,8 +1,7 @@
 -- Stores whose places are written row after row.
-use Rattle.std.proofs.Common.{◌≡◌, ℕ, ◌+◌, ◌<◌, ltb, List, length, None, Option, sym, refl, ap, ◌∙◌, subst, arith, length-set, get_or-set_other, get_or-set_same}
+use Rattle.std.proofs.Common.{◌≡◌, ℕ, ◌+◌, ◌<◌, List, length, None, Option, sym, ap, ◌∙◌, subst, arith, length-set, get_or-set_other, get_or-set_same}
 use native.Mathlib.Decide.{ℕ_discrete}
-use Rattle.std.proofs.lemmas.Bool.{cond-true, lt-ltb}
-use Rattle.store.specs.Store.{Store, at, with_at, clear_after}
+use Rattle.store.specs.Store.{Store, at, with_at}
 use Rattle.sector.specs.Opening.{SameFrom}
 
 -- the first n places hold what they should, and no other place changed
@@ -10,13 +9,6 @@ pub record Done (f : ℕ → Option (List ℕ)) (n : ℕ) (old new : Store) : Ty
   pub sized : length new.contents ≡ length old.contents
   pub done : (r : ℕ) → r < n → at new r ≡ f r
   pub same : SameFrom n old new
-
-pub done_none : (f : ℕ → Option (List ℕ)) (old : Store) → Done f 0 old old
-done_none f old = record {
-  sized = refl;
-  done = λ r l. absurd (let z : ⊥ = omega arith in z);
-  same = record { places = refl; width = refl; others = λ k l. refl };
-}
 
 pub done_more : (f : ℕ → Option (List ℕ)) (n : ℕ) (old now new : Store) → Done f n old now → n < length old.contents → new ≡ with_at now n (f n) → Done f (n + 1) old new
 done_more f n old now new d h e =
@@ -35,16 +27,6 @@ done_more f n old now new d h e =
     here r l (yes z) =
         ap (at (with_at now n (f n))) z ∙ get_or-set_same now.contents n (f n) None (let s = d.sized in omega arith) ∙ ap f (sym z)
     here r l (no ne) = get_or-set_other now.contents n r (f n) None ne ∙ d.done r (omega arith)
-
--- one more place is blank
-pub cleared_more : (n : ℕ) (old now new : Store) → Done (λ _. None) n old now → n < old.places → length old.contents ≡ old.places → new ≡ clear_after now n → Done (λ _. None) (n + 1) old new
-cleared_more n old now new d h l e =
-    done_more (λ _. None) n old now new d (omega arith)
-    (e ∙ cond-true (ltb n now.places) (with_at now n None) now (lt-ltb n now.places (let p = d.same.places in omega arith)))
-
--- the first n places, with another name for n
-pub done_at : (f : ℕ → Option (List ℕ)) (n m : ℕ) (old new : Store) → n ≡ m → Done f n old new → Done f m old new
-done_at f n m old new e d = subst (λ i. Done f i old new) e d
 
 -- row n is left as it was
 pub done_kept : (f : ℕ → Option (List ℕ)) (n : ℕ) (old now : Store) → Done f n old now → f n ≡ at old n → Done f (n + 1) old now

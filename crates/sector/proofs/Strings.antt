@@ -2,10 +2,11 @@
 use Rattle.std.proofs.Common.{◌≡◌, ℕ, ◌*◌, ◌/◌, ◌%◌, ◌<◌, ◌≤◌, List, length, get_or, take, sym, ap, ◌∙◌, subst, mul-le-mul_right, mod-eq_of_lt, arith}
 use lib.ListN.{length-map}
 use Rattle.std.proofs.lemmas.List.{ext_get_or, get_or-map, get_or-take, length-take-le}
+use Rattle.byte_string.specs.Bytes.{Bytes}
 use Rattle.field.specs.Systems.{System, Symbol, symbol}
 use Rattle.field.proofs.Symbols.{symbol_path}
 use Rattle.code.specs.Codewords.{Symbols}
-use Rattle.grid.specs.Packing.{Bytes, part, symbol_at, unpacked}
+use Rattle.grid.specs.Packing.{part, symbol_at, unpacked}
 use Rattle.grid.proofs.Parts.{length_unpacked, get_or_unpacked, symbol_small, symbols_tell, byte_of}
 use Rattle.block.specs.Conditions.{symbols_in}
 

@@ -15,13 +15,6 @@ use Rattle.sector.specs.declared.terms.Terms.{Terms}
 use Rattle.sector.proofs.Flat.{body_same, body_other}
 
 module _ (s : System) (t : Terms) (P : Contents) where
-  pub surveyed_none : (flat : List ℕ) (lost broken : List Bool) → Surveyed s t P 0 flat lost broken
-  surveyed_none flat lost broken = record {
-    lost_is = λ r h. absurd (let z : ⊥ = omega arith in z);
-    broken_is = λ r h. absurd (let z : ⊥ = omega arith in z);
-    words = λ r h e. absurd (let z : ⊥ = omega arith in z);
-  }
-
   module _ (n a k : ℕ) (flat body : List ℕ) (lost broken : List Bool) (c : Condition) (l b : Bool)
       (long : length flat ≡ row_count t.layout * body_bytes t.layout) (few : n < row_count t.layout)
       (ea : a ≡ n * body_bytes t.layout) (ek : k ≡ body_bytes t.layout) (lb : length body ≡ body_bytes t.layout)

@@ -1,5 +1,6 @@
 -- What a call on a sector answers, by numbers.
-use Rattle.std.specs.Prelude.{ℕ, Bool, true, false, cond, List, [], ◌∷◌, Ok, Err, Result}
+use Rattle.std.specs.Prelude.{ℕ, Bool, true, false, cond, List, [], ◌∷◌, ◌++◌, Ok, Err, Result, codes}
+use Rattle.std.specs.Fmt.{decimal}
 use Rattle.block.specs.Conditions.{condition_values}
 use Rattle.block.specs.declared.condition.Condition.{Condition}
 use Rattle.sector.specs.declared.refusal.Refusal.{Refusal}
@@ -25,6 +26,12 @@ refusal_of NoContents = refused 10 []
 abbrev pub answer_number : Answer → ℕ
 answer_number (taken ns) = 0
 answer_number (refused k ns) = k
+
+-- an answer as it is printed: its number, and how many rows are lost
+abbrev pub answer_text : Answer → List ℕ
+answer_text (taken ns) = []
+answer_text (refused k []) = codes "refused (" ++ decimal k ++ codes ")"
+answer_text (refused k (n ∷ ns)) = codes "refused (" ++ decimal k ++ (codes "), rows lost: " ++ decimal n)
 
 abbrev pub answered : {A : Type 0} → (A → List ℕ) → Result A Refusal → Answer
 answered tells (Ok x) = taken (tells x)

@@ -1,8 +1,8 @@
 -- The bodies of a sector's rows, and when they are closed: every body and every column of data symbols is a codeword.
 use Rattle.std.specs.Prelude.{◌≡◌, ℕ, ◌<◌, List, [], ◌++◌, map, length, get_or, take, slice_index_or}
+use Rattle.byte_string.specs.Bytes.{Bytes}
 use Rattle.field.specs.Systems.{System}
 use Rattle.code.specs.Codewords.{Symbols, Codeword}
-use Rattle.grid.specs.Packing.{Bytes}
 use Rattle.grid.specs.Grids.{row_symbols, data_symbols, check_symbols}
 use Rattle.block.specs.Layouts.{shape_of, row_count, data_rows, check_rows, data_bytes, body_bytes}
 use Rattle.block.specs.Identification.{id_of}

@@ -1,8 +1,8 @@
 -- What the calls on a closed sector answer and leave, whatever its store holds.
 use Rattle.std.specs.Prelude.{◌≡◌, ℕ, ◌<◌, ◌≤◌, true, false, cond, ◌⊎◌, List, [], ◌∷◌, length, take, Some, MatchBool, Option, slice_index_or}
+use Rattle.byte_string.specs.Bytes.{Bytes}
 use Rattle.field.specs.Systems.{System}
 use Rattle.code.specs.Codewords.{Symbols}
-use Rattle.grid.specs.Packing.{Bytes}
 use Rattle.grid.specs.Grids.{data_symbols}
 use Rattle.store.specs.Store.{Store, at, with_at}
 use Rattle.block.specs.Layouts.{shape_of, row_count, check_rows, data_bytes}

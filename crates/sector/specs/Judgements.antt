@@ -3,20 +3,17 @@ use Rattle.std.specs.Prelude.{◌≡◌, ℕ, false, List, Some, Ok, Err, Option
 use Rattle.field.specs.Systems.{System}
 use Rattle.grid.specs.Grids.{check_symbols}
 use Rattle.block.specs.Layouts.{shape_of}
-use Rattle.block.specs.Conditions.{condition, body_condition, accepted_word, word_of, is_lost, symbols_in}
+use Rattle.block.specs.Conditions.{condition, condition_of, body_condition, accepted_word, word_of, is_lost, symbols_in}
 use Rattle.block.specs.declared.layout.Layout.{Layout}
 use Rattle.block.specs.declared.condition.Condition.{Condition}
-use Rattle.block.specs.declared.condition.Condition.TheVariants.{Clean, Corrected, OutOfReach}
+use Rattle.block.specs.declared.condition.Condition.TheVariants.{OutOfReach}
 use Rattle.code.specs.declared.correct.Verdict.{Verdict}
-use Rattle.code.specs.declared.correct.Verdict.TheVariants.{Clean as Intact, Corrected as Changed, OutOfReach as Beyond}
 use Rattle.code.specs.declared.error.CodeError.{CodeError}
 use Rattle.sector.specs.declared.terms.Terms.{Terms}
 
 -- the condition that correction says; it is never refused for a body of a sector whose terms fit
 abbrev pub corrected : Result Verdict CodeError → Condition
-corrected (Ok Intact) = Clean
-corrected (Ok (Changed p)) = Corrected p
-corrected (Ok Beyond) = OutOfReach
+corrected (Ok v) = condition_of v
 corrected (Err e) = OutOfReach
 
 -- the condition of a body, which has become the codeword that was accepted

@@ -1,5 +1,6 @@
 pub mod Answers
 pub mod Terms
+pub mod Sectors
 pub mod Bodies
 pub mod Judgements
 pub mod Flat

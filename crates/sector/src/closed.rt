@@ -1,19 +1,21 @@
 // Closed sectors: rows are read, checked and repaired.
 ghost use Rattle.std.specs.Prelude.{◌≡◌, [], Some, None};
-ghost use Rattle.grid.specs.Packing.{Bytes};
+ghost use Rattle.byte_string.specs.Bytes.{Bytes};
 ghost use Rattle.sector.specs.Answers.{answer_done, answer_condition, answer_count, taken};
 ghost use Rattle.sector.specs.Terms.{row_guards, block_guards};
 ghost use Rattle.sector.specs.Closing.{stored, check_answer, Reading, Repairing};
 
-use super::MOST_BODY;
-use super::judge::examine;
-use super::recover::{read_row, repair_rows};
+use super::fitted::fit;
 use super::refusal::Refusal;
-use super::rows::are_bytes;
-use super::terms::{Terms, fit};
+use super::rows::{all_bytes, are_bytes, put_rows};
+use super::terms::Terms;
+use super::{MOST_BODY, MOST_BYTES, MOST_ROWS};
 use block::condition::Condition;
 use block::layout::Layout;
+use code::fill::count_unknown;
 use field::{Field, NumberSystem};
+use grid::rows::encode_rows;
+use std::marker::Model;
 use store::BlockStore;
 
 /// A sector whose rows lie in its store under their identifications, each with its check bytes, and the check rows behind the data rows.
@@ -24,7 +26,16 @@ pub struct ClosedSector<F, S> {
     pub(crate) store: S,
 }
 
+impl<F, S> Model for ClosedSector<F, S> {
+    ghost use Rattle.sector.specs.Sectors.{ClosedView};
+
+    ghost Value = { ClosedView F S };
+
+    ghost view = { λ a. record { terms = a.terms; field = a.field; store = a.store } };
+}
+
 /// Takes a store that holds a closed sector, as it came from elsewhere.
+// Layout and track pair come one by one, as a caller has them.
 pub fn adopt<F: Field, S: BlockStore>(
     layout: Layout,
     pair: u8,
@@ -42,6 +53,7 @@ pub fn adopt<F: Field, S: BlockStore>(
     }
 }
 
+// Each call tests its row and its length itself, so that the order of its refusals is read there.
 impl<F: Field, S: BlockStore> ClosedSector<F, S> {
     /// Puts a whole block at a row's place, right or wrong, over what was there.
     pub fn put_block(&mut self, row: usize, block: &[u8]) -> Result<(), Refusal>
@@ -51,7 +63,6 @@ impl<F: Field, S: BlockStore> ClosedSector<F, S> {
         ensures terms { self.new.terms ≡ self.old.terms }
         ensures field { self.new.field ≡ self.old.field }
     {
-        are_bytes(block);
         fit::<F, S>(&self.terms, &self.store)?;
         if row >= self.terms.layout.rows() {
             return Err(Refusal::Row);
@@ -82,20 +93,20 @@ impl<F: Field, S: BlockStore> ClosedSector<F, S> {
     pub fn check(&self, row: usize) -> Result<Condition, Refusal>
         ensures { answer_condition result ≡ check_answer F.NumberSystem.system self.now.terms (S.BlockStore.store self.now.store) row }
     {
-        fit::<F, S>(&self.terms, &self.store)?;
+        let fitted = fit::<F, S>(&self.terms, &self.store)?;
         if row >= self.terms.layout.rows() {
             return Err(Refusal::Row);
         }
         let n = self.terms.layout.body_bytes();
         let mut room = [0u8; MOST_BODY];
-        Ok(examine::<F, S>(&self.terms, &self.store, row, &mut room[0..n]))
+        Ok(fitted.examine(row, &mut room[0..n]))
     }
 
     /// Reads the data bytes of a data row, also of a lost one if the other rows tell them.
     pub fn read(&self, row: usize, buffer: &mut [u8]) -> Result<(), Refusal>
         ensures { Reading F.NumberSystem.system self.now.terms (S.BlockStore.store self.now.store) row buffer.old buffer.new (answer_done result) }
     {
-        fit::<F, S>(&self.terms, &self.store)?;
+        let fitted = fit::<F, S>(&self.terms, &self.store)?;
         let shape = self.terms.layout.shape();
         if row >= shape.data_rows {
             return Err(Refusal::Row);
@@ -103,7 +114,7 @@ impl<F: Field, S: BlockStore> ClosedSector<F, S> {
         if buffer.len() != shape.data_bytes {
             return Err(Refusal::Length);
         }
-        read_row::<F, S>(&self.terms, &self.store, row, buffer)
+        fitted.read(row, buffer)
     }
 
     /// Restores every row: those that are not whole are put anew, as closing would, and counted; or says why not, and then
@@ -113,8 +124,17 @@ impl<F: Field, S: BlockStore> ClosedSector<F, S> {
         ensures terms { self.new.terms ≡ self.old.terms }
         ensures field { self.new.field ≡ self.old.field }
     {
-        fit::<F, S>(&self.terms, &self.store)?;
-        repair_rows::<F, S>(&self.terms, &mut self.store)
+        let fitted = fit::<F, S>(&self.terms, &self.store)?;
+        let layout = self.terms.layout;
+        let mut room = [0u8; MOST_BYTES];
+        let mut marks = [false; MOST_ROWS];
+        let bodies = &mut room[0..all_bytes(layout)];
+        let broken = &mut marks[0..layout.rows()];
+        fitted.recover(bodies, broken)?;
+        let _ = encode_rows::<F>(&layout.shape(), bodies);
+        are_bytes(bodies);
+        put_rows(&self.terms, &mut self.store, bodies, broken);
+        Ok(count_unknown(broken))
     }
 }
 

@@ -1,4 +1,5 @@
-// The data bytes of an open sector's rows, collected for closing it.
+// The data bytes of an open sector's rows, collected for closing it. They ask for a store's places and width, and for no field, so
+// they are no methods of `Fitted`.
 ghost use Rattle.std.specs.Prelude.{◌≡◌, ℕ, ◌*◌, ◌<◌, ◌≤◌, cond, length, take, drop};
 ghost use Rattle.store.specs.Store.{at};
 ghost use Rattle.block.specs.Layouts.{row_count, data_rows, data_bytes, body_bytes, block_width};
@@ -28,8 +29,9 @@ pub(crate) fn gather_rows<S: BlockStore>(layout: Layout, store: &S, marks: &[boo
     let rows = layout.shape().data_rows;
     let some = layout.shape().data_bytes;
     let n = layout.body_bytes();
-    for r in 0..rows {
+    // by number, since a proof keeps no write that is made through `chunks_mut`
+    for (r, mark) in marks[..rows].iter().enumerate() {
         let start = r * n;
-        load_row(layout, store, r, marks[r], &mut flat[start..start + some]);
+        load_row(layout, store, r, *mark, &mut flat[start..start + some]);
     }
 }

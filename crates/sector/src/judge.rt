@@ -1,38 +1,22 @@
 // What a block of a row is found to be.
 ghost use Rattle.std.specs.Prelude.{◌≡◌, ◌<◌, length, Some};
 ghost use Rattle.grid.specs.Grids.{row_symbols};
-ghost use Rattle.block.specs.Layouts.{shape_of, row_count, body_bytes, block_width};
-ghost use Rattle.store.specs.Store.{at};
-ghost use Rattle.sector.specs.Terms.{Fits};
-ghost use Rattle.sector.specs.Judgements.{corrected, BodyJudged, RowJudged};
+ghost use Rattle.block.specs.Layouts.{shape_of, body_bytes, block_width};
+ghost use Rattle.sector.specs.Judgements.{BodyJudged, RowJudged};
 
 use super::terms::Terms;
 use block::condition::Condition;
 use block::identification::is_right;
-use code::correct::Verdict;
-use code::error::CodeError;
 use field::{Field, NumberSystem};
 use grid::rows::correct_row;
-use store::{BlockStore, MOST_WIDTH};
-
-// The condition that correction says.
-fn condition_of(verdict: Result<Verdict, CodeError>) -> Condition
-    ensures { result ≡ corrected verdict }
-{
-    match verdict {
-        Ok(Verdict::Clean) => Condition::Clean,
-        Ok(Verdict::Corrected(p)) => Condition::Corrected(p),
-        Ok(Verdict::OutOfReach) => Condition::OutOfReach,
-        Err(_) => Condition::OutOfReach,
-    }
-}
 
 // What a body is found to be; it is corrected if one symbol has to change.
 fn judge_body<F: Field>(terms: &Terms, body: &mut [u8]) -> Condition
     requires { (length body.old ≡ body_bytes terms.now.layout) × (row_symbols F.NumberSystem.system (shape_of terms.now.layout) < F.NumberSystem.system.order) }
     ensures { BodyJudged F.NumberSystem.system terms.now.layout body.old body.new result }
 {
-    condition_of(correct_row::<F>(body, terms.layout.shape().check_bytes))
+    let checks = terms.layout.shape().check_bytes;
+    correct_row::<F>(body, checks).map_or(Condition::OutOfReach, Condition::from)
 }
 
 // What the block at a row's place is found to be; its body is copied, and corrected if one symbol has to change.
@@ -50,29 +34,5 @@ pub(crate) fn judge<F: Field>(terms: &Terms, row: usize, block: &[u8], body: &mu
             judge_body::<F>(terms, body)
         }
         _ => Condition::WrongId,
-    }
-}
-
-// What is found at a row's place; the body of a row that is not lost is copied, corrected if one symbol has to change.
-pub(crate) fn examine<F: Field, S: BlockStore>(
-    terms: &Terms,
-    store: &S,
-    row: usize,
-    body: &mut [u8],
-) -> Condition
-    requires fits { Fits F.NumberSystem.system terms.now (S.BlockStore.store store.now) }
-    requires row { (row < row_count terms.now.layout) × (length body.old ≡ body_bytes terms.now.layout) }
-    ensures { RowJudged F.NumberSystem.system terms.now row (at (S.BlockStore.store store.now) row) body.new result }
-{
-    let width = terms.layout.width();
-    let mut room = [0u8; MOST_WIDTH];
-    let block = &mut room[0..width];
-    let Ok(held) = store.get(row, block) else {
-        return Condition::Blank;
-    };
-    if held {
-        judge::<F>(terms, row, block, body)
-    } else {
-        Condition::Blank
     }
 }

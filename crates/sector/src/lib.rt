@@ -2,10 +2,10 @@
 #![tactic(auto)]
 
 pub mod closed;
+mod fitted;
 mod gather;
 mod judge;
 pub mod open;
-mod recover;
 pub mod refusal;
 mod rows;
 pub mod terms;

@@ -7,15 +7,17 @@ ghost use Rattle.sector.specs.Terms.{fits};
 ghost use Rattle.sector.specs.Opening.{RowStored, Writing, Written, Closes, Discards, open_data};
 
 use super::closed::ClosedSector;
+use super::fitted::fit;
 use super::gather::gather_rows;
 use super::refusal::Refusal;
 use super::rows::{all_bytes, are_bytes, clear_rows, make_body, put_row, put_rows};
-use super::terms::{Terms, fit, is_fit};
+use super::terms::Terms;
 use super::{MOST_BODY, MOST_BYTES, MOST_ROWS};
 use block::layout::Layout;
 use field::{Field, NumberSystem};
 use grid::columns::encode_columns;
 use grid::rows::encode_rows;
+use std::marker::Model;
 use store::BlockStore;
 
 /// Owed for an open sector: closing or discarding the sector takes it, and nothing else does. It is no `Drop`, so it cannot be let go.
@@ -37,7 +39,16 @@ pub struct OpenSector<F, S> {
     marks: [bool; MOST_ROWS],
 }
 
+impl<F, S> Model for OpenSector<F, S> {
+    ghost use Rattle.sector.specs.Sectors.{OpenView};
+
+    ghost Value = { OpenView F S };
+
+    ghost view = { λ a. record { terms = a.terms; field = a.field; store = a.store; marks = a.marks } };
+}
+
 /// Opens a sector, of which no row is written, and gives the token that is owed for it.
+// Layout and track pair come one by one, as a caller has them; from here on they are `Terms`.
 pub fn open<F: Field, S: BlockStore>(
     layout: Layout,
     pair: u8,
@@ -60,7 +71,7 @@ pub fn open<F: Field, S: BlockStore>(
     )
 }
 
-// Writes a data row that fits: makes its body and puts it at its place.
+// Writes a data row that fits: makes its body and puts it at its place. It writes to the store, so it is no method of `Fitted`.
 fn write_row<F: Field, S: BlockStore>(terms: &Terms, store: &mut S, row: usize, bytes: &[u8])
     requires fits { fits F.NumberSystem.system terms.now (S.BlockStore.store store.old) ≡ true }
     requires row { row < data_rows terms.now.layout }
@@ -74,7 +85,8 @@ fn write_row<F: Field, S: BlockStore>(terms: &Terms, store: &mut S, row: usize, 
     put_row(terms, store, row, body);
 }
 
-// Closes a sector that fits: collects the data rows, encodes the columns and then the rows, and puts every row.
+// Closes a sector that fits: collects the data rows, encodes the columns and then the rows, and puts every row. It writes to the
+// store, so it is no method of `Fitted`.
 fn close_rows<F: Field, S: BlockStore>(terms: &Terms, marks: &[bool], store: &mut S)
     requires fits { fits F.NumberSystem.system terms.now (S.BlockStore.store store.old) ≡ true }
     requires sound { Sound (S.BlockStore.store store.old) }
@@ -95,6 +107,7 @@ fn close_rows<F: Field, S: BlockStore>(terms: &Terms, marks: &[bool], store: &mu
     put_rows(terms, store, flat, &every[0..layout.rows()]);
 }
 
+// A write tests its row and its length itself, as the calls on closed sectors do.
 impl<F: Field, S: BlockStore> OpenSector<F, S> {
     /// Writes the data bytes of a data row: puts its block at its place, over what was there, and marks the row.
     pub fn write(&mut self, row: usize, bytes: &[u8]) -> Result<(), Refusal>
@@ -102,6 +115,7 @@ impl<F: Field, S: BlockStore> OpenSector<F, S> {
         ensures terms { self.new.terms ≡ self.old.terms }
         ensures field { self.new.field ≡ self.old.field }
         ensures sound { Sound (S.BlockStore.store self.old.store) }
+        ensures long { length self.old.marks ≡ 149 }
     {
         fit::<F, S>(&self.terms, &self.store)?;
         let shape = self.terms.layout.shape();
@@ -129,7 +143,7 @@ impl<F: Field, S: BlockStore> OpenSector<F, S> {
             mut store,
             marks,
         } = self;
-        if is_fit::<F, S>(&terms, &store) {
+        if fit::<F, S>(&terms, &store).is_ok() {
             close_rows::<F, S>(&terms, &marks, &mut store);
         }
         ClosedSector {
@@ -152,7 +166,7 @@ impl<F: Field + Drop, S: BlockStore> OpenSector<F, S> {
             mut store,
             marks: _,
         } = self;
-        if is_fit::<F, S>(&terms, &store) {
+        if fit::<F, S>(&terms, &store).is_ok() {
             clear_rows(terms.layout, &mut store);
         }
         store

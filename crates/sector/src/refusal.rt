@@ -2,6 +2,8 @@
 ghost use Rattle.std.specs.Prelude.{◌≡◌};
 ghost use Rattle.sector.specs.Answers.{refusal_of, answer_number};
 
+use std::fmt;
+
 /// The refusals, in the order in which they are tested; 3 to 10.
 #[derive(Clone, Copy, PartialEq, Eq, Debug)]
 pub enum Refusal {
@@ -25,6 +27,7 @@ pub enum Refusal {
 
 impl Refusal {
     /// The refusal's number, 3 to 10.
+    // A method and no conversion: how many rows are lost is not in it.
     pub fn number(self) -> u8
         ensures { result ≡ answer_number (refusal_of self) }
     {
@@ -37,6 +40,20 @@ impl Refusal {
             Refusal::Length => 8,
             Refusal::Lost(_) => 9,
             Refusal::NoContents => 10,
+        }
+    }
+}
+
+impl fmt::Display for Refusal {
+    ghost use Rattle.std.specs.Prelude.{Some};
+    ghost use Rattle.sector.specs.Answers.{refusal_of, answer_text};
+
+    ghost output = { λ e. Some (answer_text (refusal_of e)) };
+
+    fn fmt<W: fmt::Write>(&self, f: &mut fmt::Formatter<W>) -> fmt::Result {
+        match self {
+            Refusal::Lost(n) => write!(f, "refused ({}), rows lost: {n}", self.number()),
+            _ => write!(f, "refused ({})", self.number()),
         }
     }
 }

@@ -1,6 +1,7 @@
-// The blocks of rows, as they are written to a store.
+// The blocks of rows, as they are written to a store. These are no methods of `Fitted`, which borrows a store to read it: a second
+// struct that borrows it to write would say the same facts again.
 ghost use Rattle.std.specs.Prelude.{◌≡◌, ℕ, ◌*◌, ◌<◌, ◌≤◌, length, take, Some, None};
-ghost use Rattle.grid.specs.Packing.{Bytes};
+ghost use Rattle.byte_string.specs.Bytes.{Bytes};
 ghost use Rattle.grid.specs.Grids.{row_symbols};
 ghost use Rattle.store.specs.Store.{at, with_at};
 ghost use Rattle.block.specs.Layouts.{shape_of, row_count, data_bytes, body_bytes, block_width};
@@ -16,7 +17,8 @@ use grid::rows::encode_rows;
 use grid::shape::Shape;
 use store::{BlockStore, MOST_WIDTH};
 
-// Says that what a slice of bytes holds is below 256. It computes nothing.
+// Says that what a slice of bytes holds is below 256, which is known of a parameter but not of a part of a local array. It
+// computes nothing.
 pub(crate) fn are_bytes(bytes: &[u8])
     ensures { Bytes bytes.now }
 {
@@ -69,7 +71,6 @@ pub(crate) fn make_body<F: Field>(layout: Layout, bytes: &[u8], body: &mut [u8])
     body[0..bytes.len()].copy_from_slice(bytes);
     are_bytes(body);
     let _ = encode_rows::<F>(&one, body);
-    are_bytes(body);
 }
 
 // Puts the bodies of the rows that are flagged; the bodies of all rows lie one after another in `bodies`.
@@ -80,8 +81,9 @@ pub(crate) fn put_rows<S: BlockStore>(terms: &Terms, store: &mut S, bodies: &[u8
     ensures { RowsWritten terms.now bodies.now flags.now (S.BlockStore.store store.old) (S.BlockStore.store store.new) }
 {
     let n = terms.layout.body_bytes();
-    for r in 0..terms.layout.rows() {
-        if flags[r] {
+    // by number, which is the row's place in the store too
+    for (r, flag) in flags.iter().enumerate() {
+        if *flag {
             let start = r * n;
             put_row(terms, store, r, &bodies[start..start + n]);
         }

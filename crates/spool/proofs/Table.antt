@@ -1,154 +1,154 @@
 -- What a table has for each place, after an entry is replaced or pushed.
-use Rattle.std.proofs.Common.{◌≡◌, ℕ, zero, suc, ◌<◌, ◌≤◌, true, false, cond, ◌||◌, eqb, List, [], ◌∷◌, ◌++◌, length, get_or, take, set, replicate, Some, None, Option, sym, refl, ap, ◌∙◌, subst, ⊎_elim, arith}
+use Rattle.std.proofs.Common.{◌≡◌, ◌≢◌, ℕ, ◌<◌, ◌≤◌, true, false, cond, ◌&&◌, eqb, ltb, leb, List, [], ◌∷◌, ◌++◌, length, get_or, take, drop, set, replicate, Some, None, Option, sym, refl, ap, ◌∙◌, subst, ⊎_elim, arith, Vec, Global, vec_capacity}
+use Rattle.std.specs.List.{position, position_or_len, find, slice_get, list_any, All, IsDistinct}
+use Rattle.std.specs.Vec.{with_item}
+use Rattle.std.specs.Option.{option_map, option_and_then, option_or}
+use Rattle.std.specs.Cmp.{nat_eq_equiv}
 use Rattle.std.proofs.lemmas.List.{ext_get_or, map-set, set-get_or, length-map, get_or-map, map-append, length-append, length-take-le, length-replicate, get_or-replicate}
-use Rattle.std.proofs.lemmas.Bool.{lt-ltb, eq-eqb, ne_eqb, eqb-true, cases_Bool, or_cases}
-use Rattle.store.specs.Store.{Sound, Bytes, with_at, listed, good_width}
-use Rattle.store.proofs.Bytes.{bytes_take}
+use Rattle.std.proofs.lemmas.List.Elements.{All-map, All-push}
+use Rattle.std.proofs.lemmas.List.Folds.{find-set, find_past, find-append, find_at, list_any_none, list_any_at, Any-from_list_any}
+use Rattle.std.proofs.lemmas.Option.{slice_get_past, slice_get-get_or}
+use Rattle.std.proofs.lemmas.List.Quantifiers.{position-Some}
+use Rattle.std.proofs.lemmas.List.Sums.{fails_before_first}
+use Rattle.std.proofs.lemmas.Map.Keys.{IsDistinct-push}
+use Rattle.std.proofs.lemmas.Map.Steps.{length-le_from_distinct_below}
+use Rattle.std.proofs.lemmas.Bool.{lt-ltb, eq-eqb, ne_eqb, eqb-true, eqb-false, ltb-true, ltb-false, cases_Bool, and_parts, cond-true, cond-false}
+use Rattle.byte_string.specs.Bytes.{Bytes}
+use Rattle.store.specs.Store.{Sound, with_at, listed, good_width}
+use Rattle.byte_string.proofs.Bytes.{bytes_take, bytes_drop, bytes_zeros, bytes_append}
 use Rattle.store.proofs.Listed.{length_listed, get_or_listed, listed_set, listed_sound}
 use Rattle.store.proofs.Widths.{width_within}
-use Rattle.spool.proofs.Distinct.{distinct_few, present, absent, apart_push}
 use Rattle.spool.specs.declared.entry.Entry.{Entry}
-use Rattle.spool.specs.Table.{places_of, place_at, First, lookup, held, apart, has, spool_store, order_put, blank}
+use Rattle.spool.specs.declared.Spool.TheInside.{Inside}
+use Rattle.spool.specs.Kept.{Kept}
+use Rattle.spool.specs.Table.{places_of, is_of, lookup, held, spool_store, spool_places, order_put, blank}
+
+-- where the entry of a place stands
+pub record Stands (xs : List Entry) (p i : ℕ) : Type 0 where
+  pub first : i ≡ position_or_len (is_of p) xs
+  pub within : i < length xs
+  pub here : (d : Entry) → (get_or xs i d).place ≡ p
+
+pub stands : (xs : List Entry) (p i : ℕ) → Some i ≡ position (is_of p) xs → Stands xs p i
+stands xs p i e =
+    let m = position_or_len (is_of p) xs in
+    ⊎_elim
+    (λ (t : ltb m (length xs) ≡ true).
+    let f : Some i ≡ Some m = simp t at e in
+    let first : i ≡ m = cc in
+    let lt = ltb-true m (length xs) t in
+    record { first = first; within = omega arith; here = λ d. eqb-true _ _ (position-Some (is_of p) xs i d (sym e)).1 })
+    (λ (t : ltb m (length xs) ≡ false). let f : Some i ≡ None = simp t at e in let z : ◌≡◌ {A = ℕ} 0 1 = cc in absurd (omega arith))
+    (cases_Bool (ltb m (length xs)))
 
 -- no entry is of the place
-abbrev pub Absent : List Entry → ℕ → Type 0
-Absent xs p = (k : ℕ) → k < length xs → place_at xs k ≡ p → ⊥
+pub record Absent (xs : List Entry) (p : ℕ) : Type 0 where
+  pub nowhere : find (is_of p) xs ≡ None
+  pub none : list_any (eqb p) (places_of xs) ≡ false
 
-pub look_none : (w : ℕ) (xs : List Entry) (p : ℕ) → Absent xs p → lookup w xs p ≡ None
-look_none w [] p h = refl
-look_none w (x ∷ xs) p h =
-    let e = ne_eqb x.place p (λ e. h 0 (omega arith) e) in simp e (look_none w xs p (λ k lt. h (suc k) (omega arith)))
-
-rest_first : (x : Entry) (xs : List Entry) (p i : ℕ) → First (x ∷ xs) p (suc i) → First xs p i
-rest_first x xs p i f =
-    let lt = f.within in record { within = omega arith; here = f.here; before = λ k l. f.before (suc k) (omega arith) }
-
-pub look_first : (w : ℕ) (xs : List Entry) (p i : ℕ) (d : Entry) → First xs p i → lookup w xs p ≡ held w (get_or xs i d)
-look_first w [] p i d f = let lt = f.within in absurd (omega arith)
-look_first w (x ∷ xs) p zero d f = let t = eq-eqb x.place p f.here in simp t
-look_first w (x ∷ xs) p (suc i) d f =
-    let t = ne_eqb x.place p (λ e. f.before 0 (omega arith) e) in simp t (look_first w xs p i d (rest_first x xs p i f))
-
-swapped : {A : Type 0} (p q k : ℕ) (a b c r : A) → (q ≡ p → ⊥) → r ≡ cond (eqb p k) b c
-    → cond (eqb q k) a r ≡ cond (eqb p k) b (cond (eqb q k) a c)
-swapped p q k a b c r ne e =
+none_before : (xs : List Entry) (p : ℕ) → None ≡ position (is_of p) xs → length xs ≤ position_or_len (is_of p) xs
+none_before xs p e =
+    let m = position_or_len (is_of p) xs in
     ⊎_elim
-    (λ (s : eqb q k ≡ true). let t : eqb p k ≡ false = ne_eqb p k (λ f. ne (eqb-true q k s ∙ sym f)) in simp (s, t))
-    (λ (s : eqb q k ≡ false). simp s e)
-    (cases_Bool (eqb q k))
+    (λ (t : ltb m (length xs) ≡ true). let f : None ≡ Some m = simp t at e in let z : ◌≡◌ {A = ℕ} 0 1 = cc in absurd (omega arith))
+    (λ (t : ltb m (length xs) ≡ false). ltb-false m (length xs) t)
+    (cases_Bool (ltb m (length xs)))
 
-look_set : (w : ℕ) (xs : List Entry) (p i : ℕ) (y : Entry) → First xs p i → y.place ≡ p
-    → (k : ℕ) → lookup w (set xs i y) k ≡ cond (eqb p k) (held w y) (lookup w xs k)
-look_set w [] p i y f ey k = let lt = f.within in absurd (omega arith)
-look_set w (x ∷ xs) p zero y f ey k =
-    ap (λ m. cond (eqb m k) (held w y) (lookup w xs k)) ey
-    ∙ ⊎_elim
-    (λ (s : eqb p k ≡ true). simp s)
-    (λ (s : eqb p k ≡ false). let t : eqb x.place k ≡ false = ap (λ m. eqb m k) f.here ∙ s in simp (s, t))
-    (cases_Bool (eqb p k))
-look_set w (x ∷ xs) p (suc i) y f ey k =
-    swapped p x.place k (held w x) (held w y) (lookup w xs k) (lookup w (set xs i y) k) (λ e. f.before 0 (omega arith) e)
-    (look_set w xs p i y (rest_first x xs p i f) ey k)
+pub absent : (xs : List Entry) (p : ℕ) → None ≡ position (is_of p) xs → Absent xs p
+absent xs p e =
+    let far = none_before xs p e in
+    record {
+      nowhere = find_at (is_of p) xs ∙ slice_get_past xs (position_or_len (is_of p) xs) far;
+      none =
+          list_any_none (eqb p) (places_of xs)
+          (All-map (λ q. eqb p q ≡ false) (λ x. x.place) xs
+          (λ k d lt. ne_eqb p (get_or xs k d).place (λ f. eqb-false (get_or xs k d).place p (fails_before_first (is_of p) xs k d (omega arith)) (sym f))));
+    }
 
-look_push : (w : ℕ) (xs : List Entry) (p : ℕ) (y : Entry) → Absent xs p → y.place ≡ p
-    → (k : ℕ) → lookup w (xs ++ y ∷ []) k ≡ cond (eqb p k) (held w y) (lookup w xs k)
-look_push w [] p y h ey k = ap (λ m. cond (eqb m k) (held w y) None) ey
-look_push w (x ∷ xs) p y h ey k =
-    swapped p x.place k (held w x) (held w y) (lookup w xs k) (lookup w (xs ++ y ∷ []) k) (λ f. h 0 (omega arith) f)
-    (look_push w xs p y (λ j l. h (suc j) (omega arith)) ey k)
+is_it : (x : Entry) (p : ℕ) → x.place ≡ p → is_of p x ≡ true
+is_it x p e = eq-eqb x.place p e
 
--- a table that has one thing more for one place
-store_step : (n w p : ℕ) (xs ys : List Entry) (o : Option (List ℕ)) → p < n
-    → ((k : ℕ) → lookup w ys k ≡ cond (eqb p k) o (lookup w xs k)) → spool_store n w ys ≡ with_at (spool_store n w xs) p o
-store_step n w p xs ys o lt h =
-    ap (λ c. record { places = n; width = w; contents = c })
-    (listed_set n (lookup w xs) (lookup w ys) p o lt
-    (let t = eq-eqb p p refl in h p ∙ simp t)
-    (λ k _ ne. let t = ne_eqb p k (λ e. ne (sym e)) in h k ∙ simp t))
+is_other : (x : Entry) (p k : ℕ) → x.place ≡ p → k ≢ p → is_of k x ≡ false
+is_other x p k e ne = ne_eqb x.place k (λ f. ne (sym f ∙ e))
 
-pub store_replaced : (n w p i : ℕ) (xs : List Entry) (y : Entry) (o : Option (List ℕ)) → p < n → First xs p i → y.place ≡ p
+or_none : (o : Option Entry) → option_or o None ≡ o
+or_none None = refl
+or_none (Some x) = refl
+
+-- a table that has another thing for one place
+pub store_replaced : (n w p i : ℕ) (xs : List Entry) (y : Entry) (o : Option (List ℕ)) → p < n → Stands xs p i → y.place ≡ p
     → held w y ≡ o → spool_store n w (set xs i y) ≡ with_at (spool_store n w xs) p o
-store_replaced n w p i xs y o lt f ey eo =
-    store_step n w p xs (set xs i y) (held w y) lt (look_set w xs p i y f ey) ∙ ap (with_at (spool_store n w xs) p) eo
+store_replaced n w p i xs y o lt s ey eo =
+    ap (λ c. record { places = n; width = w; contents = c })
+    (listed_set n (lookup w xs) (lookup w (set xs i y)) p o lt
+    (ap (option_and_then (held w)) (find-set (is_of p) xs i y s.first s.within (is_it y p ey)) ∙ eo)
+    (λ k _ ne. ap (option_and_then (held w)) (find_past (is_of k) xs i y y (is_other (get_or xs i y) p k (s.here y) ne) (is_other y p k ey ne))))
 
 pub store_pushed : (n w p : ℕ) (xs ys : List Entry) (y : Entry) (o : Option (List ℕ)) → p < n → Absent xs p → y.place ≡ p
     → held w y ≡ o → ys ≡ xs ++ y ∷ [] → spool_store n w ys ≡ with_at (spool_store n w xs) p o
-store_pushed n w p xs ys y o lt f ey eo ep =
-    ap (spool_store n w) ep ∙ store_step n w p xs (xs ++ y ∷ []) (held w y) lt (look_push w xs p y f ey)
-    ∙ ap (with_at (spool_store n w xs) p) eo
+store_pushed n w p xs ys y o lt a ey eo ep =
+    let last : (k : ℕ) → find (is_of k) ys ≡ option_or (find (is_of k) xs) (cond (is_of k y) (Some y) None) =
+    λ k. ap (find (is_of k)) ep ∙ find-append (is_of k) xs (y ∷ []) in
+    ap (λ c. record { places = n; width = w; contents = c })
+    (listed_set n (lookup w xs) (lookup w ys) p o lt
+    (ap (option_and_then (held w)) (last p ∙ ap (λ f. option_or f (cond (is_of p y) (Some y) None)) a.nowhere ∙ cond-true _ _ _ (is_it y p ey)) ∙ eo)
+    (λ k _ ne. ap (option_and_then (held w))
+    (last k ∙ ap (option_or (find (is_of k) xs)) (cond-false _ _ _ (is_other y p k ey ne)) ∙ or_none (find (is_of k) xs))))
 
 pub store_blank : (n w p : ℕ) (xs : List Entry) → p < n → Absent xs p → spool_store n w xs ≡ with_at (spool_store n w xs) p None
-store_blank n w p xs lt f =
-    store_step n w p xs xs None lt
-    (λ k. ⊎_elim
-    (λ (s : eqb p k ≡ true). simp s (ap (lookup w xs) (sym (eqb-true p k s)) ∙ look_none w xs p f))
-    (λ (s : eqb p k ≡ false). simp s)
-    (cases_Bool (eqb p k)))
+store_blank n w p xs lt a =
+    ap (λ c. record { places = n; width = w; contents = c })
+    (listed_set n (lookup w xs) (lookup w xs) p None lt (ap (option_and_then (held w)) a.nowhere) (λ k _ _. refl))
+
+-- the entry that stands for a place
+pub found : (w p i : ℕ) (xs : List Entry) (d : Entry) → Stands xs p i → lookup w xs p ≡ held w (get_or xs i d)
+found w p i xs d s =
+    ap (option_and_then (held w)) (find_at (is_of p) xs ∙ ap (slice_get xs) (sym s.first) ∙ slice_get-get_or xs i d s.within)
 
 pub store_at : (n w p : ℕ) (xs : List Entry) (o : Option (List ℕ)) → p < n → lookup w xs p ≡ o
     → get_or (spool_store n w xs).contents p None ≡ o
 store_at n w p xs o lt e = get_or_listed n (lookup w xs) p lt ∙ e
 
-pub read_place : (xs : List Entry) (i : ℕ) (x : Entry) → i < length xs → x ≡ get_or xs i x → place_at xs i ≡ x.place
-read_place xs i x lt e = get_or-map (λ y. y.place) xs i x 0 lt ∙ ap (λ y. y.place) (sym e)
+place_there : (xs : List Entry) (p i : ℕ) (y : Entry) → Stands xs p i → get_or (places_of xs) i 0 ≡ p
+place_there xs p i y s = get_or-map (λ x. x.place) xs i y 0 s.within ∙ s.here y
 
-pub places_replaced : (i : ℕ) (xs : List Entry) (y : Entry) → place_at xs i ≡ y.place → places_of (set xs i y) ≡ places_of xs
-places_replaced i xs y e = map-set (λ x. x.place) xs i y ∙ ap (set (places_of xs) i) (sym e) ∙ set-get_or (places_of xs) i 0
+pub places_replaced : (xs : List Entry) (p i : ℕ) (y : Entry) → Stands xs p i → y.place ≡ p → places_of (set xs i y) ≡ places_of xs
+places_replaced xs p i y s ey =
+    map-set (λ x. x.place) xs i y ∙ ap (set (places_of xs) i) (ey ∙ sym (place_there xs p i y s)) ∙ set-get_or (places_of xs) i 0
 
-pub apart_set : (n i : ℕ) (xs : List Entry) (y : Entry) → place_at xs i ≡ y.place → apart n (places_of xs) ≡ true
-    → apart n (places_of (set xs i y)) ≡ true
-apart_set n i xs y e h = ap (apart n) (places_replaced i xs y e) ∙ h
+-- what is true of the places in their order stays true where an entry is replaced
+pub still : (P : List ℕ → Type 0) (xs : List Entry) (p i : ℕ) (y : Entry) → P (places_of xs) → Stands xs p i → y.place ≡ p
+    → P (places_of (set xs i y))
+still P xs p i y h st e = subst P (sym (places_replaced xs p i y st e)) h
 
-absent_place : (p : ℕ) (xs : List Entry) → Absent xs p → has p (places_of xs) ≡ false
-absent_place p xs f = absent p (places_of xs) (λ i h. f i (omega (arith, length-map xs (λ x. x.place))))
-
-places_pushed : (p : ℕ) (xs ys : List Entry) (y : Entry) → y.place ≡ p → ys ≡ xs ++ y ∷ [] → places_of ys ≡ places_of xs ++ p ∷ []
+pub places_pushed : (p : ℕ) (xs ys : List Entry) (y : Entry) → y.place ≡ p → ys ≡ xs ++ y ∷ [] → places_of ys ≡ places_of xs ++ p ∷ []
 places_pushed p xs ys y ey ep = ap places_of ep ∙ map-append (λ x. x.place) xs (y ∷ []) ∙ ap (λ q. places_of xs ++ q ∷ []) ey
 
-pub apart_pushed : (n p : ℕ) (xs ys : List Entry) (y : Entry) → p < n → Absent xs p → y.place ≡ p → ys ≡ xs ++ y ∷ []
-    → apart n (places_of xs) ≡ true → apart n (places_of ys) ≡ true
-apart_pushed n p xs ys y lt f ey ep h =
-    ap (apart n) (places_pushed p xs ys y ey ep) ∙ apart_push n p (places_of xs) h (absent_place p xs f) lt
-
 -- there is room for a place that has not come: with it, the places are still at most n
-pub room : (n p : ℕ) (xs : List Entry) → p < n → Absent xs p → apart n (places_of xs) ≡ true → length xs < n
-room n p xs lt f h =
-    let a = distinct_few n (places_of xs ++ p ∷ []) (apart_push n p (places_of xs) h (absent_place p xs f) lt) in
-    omega (arith, a, length-append (places_of xs) (p ∷ []), length-map xs (λ x. x.place))
+pub room : (n p : ℕ) (xs : List Entry) → p < n → Absent xs p → IsDistinct eqb (places_of xs) → All (λ q. q < n) (places_of xs) → length xs < n
+room n p xs lt a distinct below =
+    let ps = places_of xs ++ p ∷ [] in
+    let all = All-push (λ q. q < n) (places_of xs) p below lt in
+    let few = length-le_from_distinct_below ps n (IsDistinct-push nat_eq_equiv (places_of xs) p distinct a.none)
+    (λ q h. let k = Any-from_list_any (eqb q) ps h in let e = eqb-true q k.1 k.4 in let b = all k.0 k.1 k.2 in let f = k.3 in omega arith) in
+    omega (arith, few, length-append (places_of xs) (p ∷ []), length-map xs (λ x. x.place))
 
-held_block : (w : ℕ) (x : Entry) (b : List ℕ) → w ≤ 88 → held w x ≡ Some b → (length b ≡ w) × Bytes b
-held_block w x b lw e =
-    ⊎_elim
-    (λ (t : x.present ≡ true).
-    let f : Some (take w x.block) ≡ Some b = simp t at e in
-    let g : take w x.block ≡ b = cc in
-    let long = x.long in
+block_held : (w : ℕ) (o : Option (List ℕ)) (b : List ℕ) → w ≤ 88 → ((a : List ℕ) → o ≡ Some a → length a ≡ 88)
+    → ((a : List ℕ) → o ≡ Some a → Bytes a) → option_map (take w) o ≡ Some b → (length b ≡ w) × Bytes b
+block_held w None b lw long bytes e = let z : ◌≡◌ {A = ℕ} 0 1 = cc in absurd (omega arith)
+block_held w (Some a) b lw long bytes e =
+    let f : take w a ≡ b = cc in
+    let l = long a refl in
     let P : List ℕ → Type 0 = λ z. (length z ≡ w) × Bytes z in
-    subst P g (length-take-le w x.block (omega arith), bytes_take w x.block x.bytes))
-    (λ (t : x.present ≡ false). let f : None ≡ Some b = simp t at e in let z : ◌≡◌ {A = ℕ} 0 1 = cc in absurd (omega arith))
-    (cases_Bool x.present)
+    subst P f (length-take-le w a (omega arith), bytes_take w a (bytes a refl))
 
-look_block : (w : ℕ) (xs : List Entry) (k : ℕ) (b : List ℕ) → w ≤ 88 → lookup w xs k ≡ Some b → (length b ≡ w) × Bytes b
-look_block w [] k b lw e = let z : ◌≡◌ {A = ℕ} 0 1 = cc in absurd (omega arith)
-look_block w (x ∷ xs) k b lw e =
-    ⊎_elim
-    (λ (t : eqb x.place k ≡ true). held_block w x b lw (simp t at e))
-    (λ (t : eqb x.place k ≡ false). look_block w xs k b lw (simp t at e))
-    (cases_Bool (eqb x.place k))
+found_block : (w : ℕ) (f : Option Entry) (b : List ℕ) → w ≤ 88 → option_and_then (held w) f ≡ Some b → (length b ≡ w) × Bytes b
+found_block w None b lw e = let z : ◌≡◌ {A = ℕ} 0 1 = cc in absurd (omega arith)
+found_block w (Some x) b lw e = block_held w x.block b lw x.long x.bytes e
 
-narrow_width : (n w : ℕ) → (eqb n 0 || good_width w) ≡ true → 0 < n → (1 ≤ w) × (w ≤ 88)
-narrow_width n w h lt =
-    ⊎_elim
-    (λ (z : eqb n 0 ≡ true). let e = eqb-true n 0 z in absurd (omega arith))
-    (width_within w)
-    (or_cases (eqb n 0) (good_width w) h)
-
-pub wide_enough : (n w k : ℕ) → (eqb n 0 || good_width w) ≡ true → k < n → w ≤ 88
-wide_enough n w k h lt = (narrow_width n w h (omega arith)).1
-
-pub spool_sound : (n w : ℕ) (xs : List Entry) → (eqb n 0 || good_width w) ≡ true → Sound (spool_store n w xs)
-spool_sound n w xs h =
-    listed_sound n w (lookup w xs) (λ k b lt. look_block w xs k b (wide_enough n w k h lt)) (narrow_width n w h)
+pub spool_sound : (n w : ℕ) (xs : List Entry) → (0 < n → (1 ≤ w) × (w ≤ 88)) → Sound (spool_store n w xs)
+spool_sound n w xs narrow =
+    listed_sound n w (lookup w xs) (λ k b lt. found_block w (find (is_of k) xs) b (narrow (omega arith)).1) narrow
 
 pub spool_blank : (n w : ℕ) → spool_store n w [] ≡ blank n w
 spool_blank n w =
@@ -156,20 +156,54 @@ spool_blank n w =
     (ext_get_or None (listed n (lookup w [])) (replicate n None) (length_listed n (lookup w []) ∙ sym (length-replicate n None))
     (λ k h. let lt : k < n = omega (arith, length_listed n (lookup w [])) in get_or_listed n (lookup w []) k lt ∙ sym (get_or-replicate n k None None lt)))
 
+pub narrow_new : (n w : ℕ) → 0 < spool_places n w → (1 ≤ w) × (w ≤ 88)
+narrow_new n w h =
+    ⊎_elim
+    (λ (t : leb n 169 && good_width w ≡ true). width_within w (and_parts (leb n 169) (good_width w) t).1)
+    (λ (t : leb n 169 && good_width w ≡ false). let q : 0 < 0 = simp t at h in absurd (omega arith))
+    (cases_Bool (leb n 169 && good_width w))
+
 -- a place that came again leaves the order, and a new one is the last
-pub order_replaced : (n w p i : ℕ) (xs : List Entry) (y : Entry) (b : List ℕ) → p < n → length b ≡ w → First xs p i → y.place ≡ p
-    → places_of (set xs i y) ≡ order_put n w xs p b
-order_replaced n w p i xs y b lt wide f ey =
-    let s = lt-ltb p n lt in
+pub order_replaced : (n w p i : ℕ) (xs : List Entry) (y : Entry) (b : List ℕ) → p < n → length b ≡ w → Stands xs p i → y.place ≡ p
+    → places_of (set xs i y) ≡ order_put (spool_store n w xs) (places_of xs) p b
+order_replaced n w p i xs y b lt wide s ey =
+    let u = lt-ltb p n lt in
     let t = eq-eqb (length b) w wide in
-    let within = f.within in
-    let h = present p (places_of xs) i (omega (arith, length-map xs (λ x. x.place))) f.here in
-    simp (s, t, h) (places_replaced i xs y (f.here ∙ sym ey))
+    let within = s.within in
+    let h = list_any_at (eqb p) (places_of xs) i 0 (omega (arith, length-map xs (λ x. x.place))) (eq-eqb p _ (sym (place_there xs p i y s))) in
+    simp (u, t, h) (places_replaced xs p i y s ey)
 
 pub order_pushed : (n w p : ℕ) (xs ys : List Entry) (y : Entry) (b : List ℕ) → p < n → length b ≡ w → Absent xs p → y.place ≡ p
-    → ys ≡ xs ++ y ∷ [] → places_of ys ≡ order_put n w xs p b
-order_pushed n w p xs ys y b lt wide f ey ep =
-    let s = lt-ltb p n lt in
+    → ys ≡ xs ++ y ∷ [] → places_of ys ≡ order_put (spool_store n w xs) (places_of xs) p b
+order_pushed n w p xs ys y b lt wide a ey ep =
+    let u = lt-ltb p n lt in
     let t = eq-eqb (length b) w wide in
-    let h = absent_place p xs f in
-    simp (s, t, h) (places_pushed p xs ys y ey ep)
+    let h = a.none in
+    simp (u, t, h) (places_pushed p xs ys y ey ep)
+
+pub padded_bytes : (block ys : List ℕ) (n : ℕ) → ys ≡ block → Bytes block → Bytes (ys ++ drop n (replicate 88 0))
+padded_bytes block ys n e h =
+    let P : List ℕ → Type 0 = λ x. Bytes x in bytes_append ys (drop n (replicate 88 0)) (subst P (sym e) h) (bytes_drop n (replicate 88 0) (bytes_zeros 88))
+
+pub distinct_none : IsDistinct eqb (places_of [])
+unfolding IsDistinct
+distinct_none = tt
+
+-- what is true of the spool stays
+pub kept_replaced : (s : Inside) (p i : ℕ) (y : Entry) → Kept s → Stands s.table.items p i → y.place ≡ p
+    → Kept (record s { table = with_item s.table i y })
+kept_replaced s p i y k st ey =
+    let e = places_replaced s.table.items p i y st ey in
+    record { distinct = rw e k.distinct; below = rw e k.below; room = k.room; narrow = k.narrow }
+
+pub kept_pushed : (s : Inside) (table : Vec Entry Global) (p : ℕ) (y : Entry) → p < s.places → Kept s → Absent s.table.items p → y.place ≡ p
+    → table.items ≡ s.table.items ++ y ∷ [] → vec_capacity table ≡ vec_capacity s.table → Kept (record s { table = table })
+kept_pushed s table p y lt k a ey ep cap =
+    let e = places_pushed p s.table.items table.items y ey ep in
+    let room = k.room in
+    record {
+      distinct = rw e (IsDistinct-push nat_eq_equiv (places_of s.table.items) p k.distinct a.none);
+      below = rw e (All-push (λ q. q < s.places) (places_of s.table.items) p k.below lt);
+      room = omega arith;
+      narrow = k.narrow;
+    }

@@ -1,1 +1,3 @@
+pub mod Kept
+pub mod SpoolView
 pub mod Table

@@ -1,15 +1,19 @@
-// A block store that keeps its blocks, with their places, in the order in which the places first came.
-// The table's memory is taken once, when the spool is made: there is then room for each place, and none has two entries.
+// A block store that keeps its blocks, with their places, in the order in which the places first
+// came. The table's memory is taken once, when the spool is made: there is then room for each place,
+// and none has two entries.
 #![tactic(auto)]
 
 mod entry;
 
-ghost use Rattle.std.specs.Prelude.{◌≡◌, ℕ, ◌<◌, ◌≤◌, true, ◌||◌, [], length, take, IfOk, Some, None, vec_len, vec_capacity, MatchOption, ◌==◌, ◌≢◌};
-ghost use Rattle.store.specs.Store.{Bytes, good_width, put_reply, put_after, clear_reply, clear_after};
-ghost use Rattle.spool.specs.Table.{places_of, apart, place_at, held, First, spool_places, spool_store, order_put, blank};
+ghost use Rattle.std.specs.Prelude.{◌≡◌, ℕ, ◌<◌, ◌≤◌, [], length, take, position, IfOk, All, nat_eq};
+ghost use Rattle.std.specs.List.{IsDistinct};
+ghost use Rattle.byte_string.specs.Bytes.{Bytes};
+ghost use Rattle.store.specs.Store.{Sound, put_reply, put_after, clear_reply, clear_after};
+ghost use Rattle.spool.specs.Table.{is_of, spool_places, order_put, blank};
 
 use entry::Entry;
 use std::alloc::{AllocError, Global};
+use std::marker::Model;
 use store::{BlockStore, MOST_PLACES, MOST_WIDTH, StoreRefusal, is_width};
 
 /// Blocks and their places, in order of first arrival.
@@ -18,62 +22,57 @@ pub struct Spool {
     places: usize,
     width: usize,
     table: Vec<Entry>,
-    ghost distinct: { apart places (places_of table.items) ≡ true },
-    ghost room: { places ≤ vec_capacity table },
-    ghost narrow: { (places == 0 || good_width width) ≡ true },
+}
+
+// Callers see the store, and the places in their order.
+impl Model for Spool {
+    ghost use Rattle.spool.specs.SpoolView.{SpoolView};
+
+    ghost Value = { SpoolView };
+
+    ghost use Rattle.spool.specs.Table.{spool_store, places_of};
+    ghost use Rattle.spool.specs.Kept.{Kept};
+
+    ghost view = { λ s. record { store = spool_store s.places s.width s.table.items; order = places_of s.table.items } };
+
+    ghost invariant = { Kept };
 }
 
 // The places of a spool that is to have `places`, of blocks of `width` bytes.
 fn places_for(places: usize, width: usize) -> usize
     ensures { result ≡ spool_places places width }
 {
-    if places > MOST_PLACES || !is_width(width) {
-        return 0;
+    if places <= MOST_PLACES && is_width(width) {
+        places
+    } else {
+        0
     }
-    places
 }
 
-// Copies `block` to the front of `bytes`.
-fn copy_front(bytes: &mut [u8], block: &[u8])
-    requires { length block.now ≤ length bytes.old }
-    ensures front { take (length block.now) bytes.new ≡ block.now }
-    ensures bytes { Bytes bytes.new }
-{
-    bytes[0..block.len()].copy_from_slice(block);
-}
-
-// An entry that holds `block`.
-fn full_entry(place: usize, block: &[u8]) -> Entry
+// `block`, and zeros up to the widest.
+fn padded(block: &[u8]) -> [u8; MOST_WIDTH]
     requires { length block.now ≤ 88 }
-    ensures place { result.place ≡ place }
-    ensures held { held (length block.now) result ≡ Some block.now }
+    ensures front { take (length block.now) result ≡ block.now }
+    ensures bytes { Bytes result }
 {
     let mut bytes = [0u8; MOST_WIDTH];
-    copy_front(&mut bytes, block);
-    Entry {
-        place,
-        present: true,
-        block: bytes,
-    }
+    bytes[..block.len()].copy_from_slice(block);
+    bytes
 }
 
-// An entry that holds nothing.
-fn blank_entry(place: usize) -> Entry
-    ensures place { result.place ≡ place }
-    ensures blank { (w : ℕ) → held w result ≡ None }
+// Where the entry of `place` stands.
+fn position_of(table: &[Entry], place: usize) -> Option<usize>
+    ensures { result ≡ position (is_of place) table.now }
 {
-    Entry {
-        place,
-        present: false,
-        block: [0u8; MOST_WIDTH],
-    }
+    table.iter().position(|e| e.place == place)
 }
 
 impl Spool {
-    /// A blank spool, with its memory; one of more than 169 places, or of a width that is not 1 to 88, has no places.
+    /// A blank spool, with its memory; one of more than 169 places, or of a width that is not 1 to 88,
+    /// has no places.
     pub fn new(heap: Global, places: usize, width: usize) -> Result<Spool, AllocError>
-        ensures fields { IfOk result (λ s. (s.places ≡ spool_places places width) × (s.width ≡ width) × (s.table.items ≡ [])) }
-        ensures store { IfOk result (λ s. spool_store s.places s.width s.table.items ≡ blank (spool_places places width) width) }
+        ensures store { IfOk result (λ s. s.store ≡ blank (spool_places places width) width) }
+        ensures order { IfOk result (λ s. s.order ≡ []) }
     {
         let places = places_for(places, width);
         let table = Vec::with_capacity(heap, places)?;
@@ -83,24 +82,17 @@ impl Spool {
             table,
         })
     }
-
-    // Where the entry of `place` stands.
-    fn find(&self, place: usize) -> Option<usize>
-        ensures { MatchOption result ((k : ℕ) → k < vec_len self.now.table → place_at self.now.table.items k ≢ place) (λ i. First self.now.table.items place i) }
-    {
-        for i in 0..self.table.len() {
-            if self.table[i].place == place {
-                return Some(i);
-            }
-        }
-        None
-    }
 }
 
 impl BlockStore for Spool {
-    ghost store = { λ s. spool_store s.places s.width s.table.items };
+    ghost store = { λ s. s.store };
 
-    fn place_count(&self) -> usize {
+    fn place_count(&self) -> usize
+        ensures places { result ≡ self.now.store.places }
+        ensures sound { Sound self.now.store }
+        ensures distinct { IsDistinct nat_eq self.now.order }
+        ensures below { All (λ p. p < self.now.store.places) self.now.order }
+    {
         self.places
     }
 
@@ -109,18 +101,24 @@ impl BlockStore for Spool {
     }
 
     fn put(&mut self, place: usize, block: &[u8]) -> Result<(), StoreRefusal>
-        ensures reply { result ≡ put_reply (spool_store self.old.places self.old.width self.old.table.items) place block.now }
-        ensures after { spool_store self.new.places self.new.width self.new.table.items ≡ put_after (spool_store self.old.places self.old.width self.old.table.items) place block.now }
-        ensures order { places_of self.new.table.items ≡ order_put self.old.places self.old.width self.old.table.items place block.now }
+        ensures reply { result ≡ put_reply self.old.store place block.now }
+        ensures after { self.new.store ≡ put_after self.old.store place block.now }
+        ensures order { self.new.order ≡ order_put self.old.store self.old.order place block.now }
+        ensures distinct { IsDistinct nat_eq self.new.order }
+        ensures below { All (λ p. p < self.new.store.places) self.new.order }
     {
+        // each call tests for itself: of a test shared through the trait its proof learns nothing
         if place >= self.places {
             return Err(StoreRefusal::Place);
         }
         if block.len() != self.width {
             return Err(StoreRefusal::Length);
         }
-        let entry = full_entry(place, block);
-        match self.find(place) {
+        let entry = Entry {
+            place,
+            block: Some(padded(block)),
+        };
+        match position_of(&self.table, place) {
             Some(i) => self.table[i] = entry,
             None => self.table.push_reserved(entry),
         }
@@ -128,15 +126,17 @@ impl BlockStore for Spool {
     }
 
     fn clear(&mut self, place: usize) -> Result<(), StoreRefusal>
-        ensures reply { result ≡ clear_reply (spool_store self.old.places self.old.width self.old.table.items) place }
-        ensures after { spool_store self.new.places self.new.width self.new.table.items ≡ clear_after (spool_store self.old.places self.old.width self.old.table.items) place }
-        ensures order { places_of self.new.table.items ≡ places_of self.old.table.items }
+        ensures reply { result ≡ clear_reply self.old.store place }
+        ensures after { self.new.store ≡ clear_after self.old.store place }
+        ensures order { self.new.order ≡ self.old.order }
+        ensures distinct { IsDistinct nat_eq self.new.order }
+        ensures below { All (λ p. p < self.new.store.places) self.new.order }
     {
         if place >= self.places {
             return Err(StoreRefusal::Place);
         }
-        if let Some(i) = self.find(place) {
-            self.table[i] = blank_entry(place);
+        if let Some(i) = position_of(&self.table, place) {
+            self.table[i] = Entry { place, block: None };
         }
         Ok(())
     }
@@ -148,13 +148,13 @@ impl BlockStore for Spool {
         if buffer.len() != self.width {
             return Err(StoreRefusal::Length);
         }
-        if let Some(i) = self.find(place) {
-            let entry = self.table[i];
-            if entry.present {
-                buffer.copy_from_slice(&entry.block[0..self.width]);
-                return Ok(true);
-            }
-        }
-        Ok(false)
+        let Some(i) = position_of(&self.table, place) else {
+            return Ok(false);
+        };
+        let Some(block) = &self.table[i].block else {
+            return Ok(false);
+        };
+        buffer.copy_from_slice(&block[..self.width]);
+        Ok(true)
     }
 }

@@ -1,4 +1,3 @@
-pub mod Bytes
 pub mod Listed
 pub mod Replies
 pub mod Widths

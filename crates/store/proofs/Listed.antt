@@ -3,7 +3,8 @@ use Rattle.std.proofs.Common.{◌≡◌, ℕ, ◌<◌, ◌≤◌, List, length, 
 use Rattle.std.proofs.lemmas.List.FromFn.{length-map-range_with_len, get_or-map-range_with_len}
 use Rattle.std.proofs.lemmas.List.{ext_get_or, length-set, get_or-set_same, get_or-set_other, get_or_past}
 use Rattle.std.proofs.lemmas.Bool.{cases_eq, cases_lt}
-use Rattle.store.specs.Store.{listed, Sound, Bytes}
+use Rattle.byte_string.specs.Bytes.{Bytes}
+use Rattle.store.specs.Store.{listed, Sound}
 
 pub length_listed : (n : ℕ) (f : ℕ → Option (List ℕ)) → length (listed n f) ≡ n
 unfolding listed

@@ -1,17 +1,15 @@
--- The replies of a call that is done, and what a reply tells.
+-- What a call that is done leaves and replies, and what a reply tells.
 use Rattle.std.proofs.Common.{◌≡◌, ℕ, ◌<◌, Bool, true, false, eqb, ltb, List, length, is_some, Some, None, Ok, Err, Option, unwrap_or, sym, ap, ◌∙◌, ⊎_elim, arith}
 use Rattle.std.proofs.lemmas.Bool.{cases_Bool, ltb-true, eqb-true, lt-ltb, eq-eqb}
 use Rattle.store.specs.declared.StoreRefusal.{StoreRefusal}
-use Rattle.store.specs.Store.{Store, at, with_at, put_reply, put_after, clear_reply, clear_after, get_reply, get_after}
+use Rattle.store.specs.Store.{Store, at, with_at, put_after, clear_after, get_reply, get_after}
 
 pub put_done : (s s' : Store) (place : ℕ) (b : List ℕ) → place < s.places → length b ≡ s.width → s' ≡ with_at s place (Some b)
-    → (Ok tt ≡ put_reply s place b) × (s' ≡ put_after s place b)
-put_done s s' place b lt wide e =
-    let x = lt-ltb place s.places lt in let y = eq-eqb (length b) s.width wide in (simp (x, y), simp (x, y) e)
+    → s' ≡ put_after s place b
+put_done s s' place b lt wide e = let x = lt-ltb place s.places lt in let y = eq-eqb (length b) s.width wide in simp (x, y) e
 
-pub clear_done : (s s' : Store) (place : ℕ) → place < s.places → s' ≡ with_at s place None
-    → (Ok tt ≡ clear_reply s place) × (s' ≡ clear_after s place)
-clear_done s s' place lt e = let x = lt-ltb place s.places lt in (simp x, simp x e)
+pub clear_done : (s s' : Store) (place : ℕ) → place < s.places → s' ≡ with_at s place None → s' ≡ clear_after s place
+clear_done s s' place lt e = let x = lt-ltb place s.places lt in simp x e
 
 pub get_done : (s : Store) (place : ℕ) (buffer buffer' : List ℕ) (held : Bool) (o : Option (List ℕ)) → place < s.places
     → length buffer ≡ s.width → at s place ≡ o → held ≡ is_some o → buffer' ≡ unwrap_or o buffer

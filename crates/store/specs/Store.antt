@@ -1,7 +1,8 @@
 -- A store of blocks, and what each call answers and leaves.
-use Rattle.std.specs.Prelude.{◌≡◌, ℕ, ◌<◌, ◌≤◌, Bool, cond, ◌&&◌, List, map, length, is_some, Some, None, Ok, Err, Option, Result, ◌==◌, nat_le, nat_lt, slice_index, slice_index_or, slice_set}
+use Rattle.std.specs.Prelude.{◌≡◌, ℕ, ◌<◌, ◌≤◌, Bool, cond, ◌&&◌, List, map, length, is_some, Some, None, Ok, Err, Option, Result, ◌==◌, nat_le, nat_lt, slice_index_or, slice_set}
 use Rattle.std.specs.List.{range_with_len}
 use Rattle.std.specs.Option.{unwrap_or}
+use Rattle.byte_string.specs.Bytes.{Bytes}
 use Rattle.store.specs.declared.StoreRefusal.{StoreRefusal}
 use Rattle.store.specs.declared.StoreRefusal.TheVariants.{Place, Length}
 
@@ -26,10 +27,6 @@ with_at s k o = record { places = s.places; width = s.width; contents = slice_se
 -- the widths of stores with places
 abbrev pub good_width : ℕ → Bool
 good_width w = nat_le 1 w && nat_le w 88
-
--- every entry is a byte
-abbrev pub Bytes : List ℕ → Type 0
-Bytes b = (j : ℕ) → slice_index b j < 256
 
 -- what is true of every store
 pub record Sound (s : Store) : Type 0 where

@@ -1,6 +1,7 @@
 // Block stores: a number of places, a width, and at each place a block of that width or nothing.
-// The trait says, for every call, what it answers and what the store holds afterwards, in one record of the whole store.
-// A refused call changes nothing, and no call is refused but for its place or its length.
+// The trait says, for every call, what it answers and what the store holds afterwards, in one record
+// of the whole store. A refused call changes nothing, and no call is refused but for its place or its
+// length.
 #![tactic(auto)]
 
 ghost use Rattle.std.specs.Prelude.{◌≡◌};
@@ -17,16 +18,16 @@ pub const MOST_WIDTH: usize = 88;
 pub fn is_width(width: usize) -> bool
     ensures { result ≡ good_width width }
 {
-    1 <= width && width <= MOST_WIDTH
+    (1..=MOST_WIDTH).contains(&width)
 }
 
 /// Why a store refuses a call.
 #[derive(Clone, Copy, PartialEq, Eq, Debug)]
 pub enum StoreRefusal {
     /// The place is not below the store's places.
-    Place,
+    Place = 1,
     /// The length differs from the store's width.
-    Length,
+    Length = 2,
 }
 
 impl StoreRefusal {
@@ -34,10 +35,7 @@ impl StoreRefusal {
     pub fn number(self) -> u8
         ensures { result ≡ number_of self }
     {
-        match self {
-            StoreRefusal::Place => 1,
-            StoreRefusal::Length => 2,
-        }
+        self as u8
     }
 }
 
@@ -46,6 +44,7 @@ pub trait BlockStore {
     ghost store: { Self → Store };
 
     /// How many places there are; and what is true of every store.
+    // A clause and no law: a law would speak of any value of the type, in which a byte may be any number.
     fn place_count(&self) -> usize
         ensures places { result ≡ (store self.now).places }
         ensures sound { Sound (store self.now) };
@@ -64,7 +63,9 @@ pub trait BlockStore {
         ensures reply { result ≡ clear_reply (store self.old) place }
         ensures after { store self.new ≡ clear_after (store self.old) place };
 
-    /// Copies the block at `place` into `buffer`, and says whether there was one; a blank place leaves `buffer` as it was.
+    /// Copies the block at `place` into `buffer`, and says whether there was one; a blank place leaves
+    /// `buffer` as it was.
+    // A flag and the caller's buffer: no call takes memory for a block.
     fn get(&self, place: usize, buffer: &mut [u8]) -> Result<bool, StoreRefusal>
         ensures reply { result ≡ get_reply (store self.now) place buffer.old }
         ensures after { buffer.new ≡ get_after (store self.now) place buffer.old };

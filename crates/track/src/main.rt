@@ -21,7 +21,7 @@ const SUBCODE_ROW: Shape = Shape {
     check_bytes: 2,
 };
 
-// Bytes as they are printed, in hexadecimal.
+// Bytes as they are printed, in hexadecimal: a slice has no `Display` of its own.
 #[derive(Drop)]
 struct Hex<'a>(&'a [u8]);
 
@@ -36,8 +36,8 @@ impl fmt::Display for Hex<'_> {
 
 // The row with its check bytes.
 fn with_checks(data: &[u8; 5]) -> Result<[u8; 7], CodeError> {
-    let [a, b, c, d, e] = *data;
-    let mut body = [a, b, c, d, e, 0, 0];
+    let mut body = [0; 7];
+    body[..5].copy_from_slice(data);
     encode_rows::<HalfByteField>(&SUBCODE_ROW, &mut body)?;
     Ok(body)
 }

@@ -1,10 +1,9 @@
 -- The places of a window, in the store and in the store below.
-use Rattle.std.proofs.Common.{◌≡◌, ℕ, ◌+◌, ◌<◌, ◌≤◌, true, false, cond, eqb, leb, List, length, get_or, take, drop, set, is_some, Some, None, Ok, Err, Option, unwrap_or, sym, refl, ap, ◌∙◌, ⊎_elim, arith}
+use Rattle.std.proofs.Common.{◌≡◌, ℕ, ◌+◌, ◌<◌, ◌≤◌, true, false, eqb, leb, List, length, get_or, take, drop, set, Some, None, Option, sym, refl, ap, ◌∙◌, ⊎_elim, arith}
 use lib.Seq.{take-set-lt}
 use Rattle.std.proofs.lemmas.List.{get_or-take, get_or-drop, get_or_past, drop-set-add, length-take, length-drop}
 use Rattle.std.proofs.lemmas.Bool.{cases_Bool, cases_lt, leb-true, lt-ltb}
-use Rattle.store.specs.declared.StoreRefusal.{StoreRefusal}
-use Rattle.store.specs.Store.{Store, Sound, at, with_at, put_reply, put_after, clear_reply, clear_after, get_reply, get_after}
+use Rattle.store.specs.Store.{Store, Sound, at, with_at, put_after, clear_after}
 use Rattle.window.specs.Window.{window_places, windowed, Below}
 
 -- a window with a place fits
@@ -38,36 +37,21 @@ with_window first count s place k o b =
     ∙ ap (take n) (drop-set-add first s.contents place o) ∙ take-set-lt n (drop first s.contents) place o b.within)
 
 pub window_put : (first count : ℕ) (s : Store) (place k : ℕ) (block : List ℕ) → Below first count s.places place k
-    → (put_reply s k block ≡ put_reply (windowed first count s) place block)
-    × (windowed first count (put_after s k block) ≡ put_after (windowed first count s) place block)
+    → windowed first count (put_after s k block) ≡ put_after (windowed first count s) place block
 window_put first count s place k block b =
     let x = lt-ltb k s.places b.there in
-    let y = lt-ltb place (window_places first count s.places) b.within in (
-      simp (x, y),
-      ⊎_elim
-          (λ (t : eqb (length block) s.width ≡ true). simp (x, y, t) (with_window first count s place k (Some block) b))
-          (λ (t : eqb (length block) s.width ≡ false). simp (x, y, t))
-          (cases_Bool (eqb (length block) s.width)),
-    )
+    let y = lt-ltb place (window_places first count s.places) b.within in
+    ⊎_elim
+    (λ (t : eqb (length block) s.width ≡ true). simp (x, y, t) (with_window first count s place k (Some block) b))
+    (λ (t : eqb (length block) s.width ≡ false). simp (x, y, t))
+    (cases_Bool (eqb (length block) s.width))
 
 pub window_clear : (first count : ℕ) (s : Store) (place k : ℕ) → Below first count s.places place k
-    → (clear_reply s k ≡ clear_reply (windowed first count s) place)
-    × (windowed first count (clear_after s k) ≡ clear_after (windowed first count s) place)
+    → windowed first count (clear_after s k) ≡ clear_after (windowed first count s) place
 window_clear first count s place k b =
     let x = lt-ltb k s.places b.there in
     let y = lt-ltb place (window_places first count s.places) b.within in
-    (simp (x, y), simp (x, y) (with_window first count s place k None b))
-
-pub window_get : (first count : ℕ) (s : Store) (place k : ℕ) (buffer : List ℕ) → Below first count s.places place k
-    → (get_reply s k buffer ≡ get_reply (windowed first count s) place buffer)
-    × (get_after s k buffer ≡ get_after (windowed first count s) place buffer)
-window_get first count s place k buffer b =
-    let x = lt-ltb k s.places b.there in
-    let y = lt-ltb place (window_places first count s.places) b.within in
-    let e = seen first count s place k b in (
-      simp (x, y) (ap (λ o. cond (eqb (length buffer) s.width) (Ok (is_some o)) (Err StoreRefusal.Length)) e),
-      simp (x, y) (ap (λ o. cond (eqb (length buffer) s.width) (unwrap_or o buffer) buffer) e),
-    )
+    simp (x, y) (with_window first count s place k None b)
 
 -- what stands in the window stands below
 seen_below : (first count : ℕ) (s : Store) (k : ℕ) (b : List ℕ) → at (windowed first count s) k ≡ Some b → at s (first + k) ≡ Some b

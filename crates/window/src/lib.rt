@@ -2,9 +2,10 @@
 // A window that would reach past the end of the store below has no places.
 #![tactic(auto)]
 
-ghost use Rattle.std.specs.Prelude.{◌≡◌, ◌<◌, ◌≤◌, MatchOption};
+ghost use Rattle.std.specs.Prelude.{◌≡◌, ◌<◌, ◌≤◌, MatchResult};
 ghost use Rattle.window.specs.Window.{window_places, windowed, Below};
 
+use std::marker::Model;
 use store::{BlockStore, StoreRefusal};
 
 /// The places from `first` on of the store below, `count` of them.
@@ -13,6 +14,15 @@ pub struct Window<S> {
     inner: S,
     first: usize,
     count: usize,
+}
+
+// Callers see the store below, and which of its places the window shows.
+impl<S> Model for Window<S> {
+    ghost use Rattle.window.specs.WindowView.{WindowView};
+
+    ghost Value = { WindowView S };
+
+    ghost view = { λ w. record { inner = w.inner; first = w.first; count = w.count } };
 }
 
 // How many of `places` places a window has.
@@ -43,23 +53,19 @@ impl<S: BlockStore> Window<S> {
     pub fn into_inner(self) -> S
         ensures { result ≡ self.inner }
     {
-        let Window {
-            inner,
-            first: _,
-            count: _,
-        } = self;
+        let Window { inner, .. } = self;
         inner
     }
 
     // The place below of a place of the window.
-    fn below(&self, place: usize) -> Option<usize>
-        ensures { MatchOption result (window_places self.now.first self.now.count (S.BlockStore.store self.now.inner).places ≤ place) (λ k. Below self.now.first self.now.count (S.BlockStore.store self.now.inner).places place k) }
+    fn below(&self, place: usize) -> Result<usize, StoreRefusal>
+        ensures { MatchResult result (λ k. Below self.now.first self.now.count (S.BlockStore.store self.now.inner).places place k) (λ e. (e ≡ StoreRefusal.Place) × (window_places self.now.first self.now.count (S.BlockStore.store self.now.inner).places ≤ place)) }
     {
         let places = self.inner.place_count();
         if place < window_places(self.first, self.count, places) {
-            Some(self.first + place)
+            Ok(self.first + place)
         } else {
-            None
+            Err(StoreRefusal::Place)
         }
     }
 }
@@ -76,23 +82,17 @@ impl<S: BlockStore> BlockStore for Window<S> {
     }
 
     fn put(&mut self, place: usize, block: &[u8]) -> Result<(), StoreRefusal> {
-        match self.below(place) {
-            Some(k) => self.inner.put(k, block),
-            None => Err(StoreRefusal::Place),
-        }
+        let place = self.below(place)?;
+        self.inner.put(place, block)
     }
 
     fn clear(&mut self, place: usize) -> Result<(), StoreRefusal> {
-        match self.below(place) {
-            Some(k) => self.inner.clear(k),
-            None => Err(StoreRefusal::Place),
-        }
+        let place = self.below(place)?;
+        self.inner.clear(place)
     }
 
     fn get(&self, place: usize, buffer: &mut [u8]) -> Result<bool, StoreRefusal> {
-        match self.below(place) {
-            Some(k) => self.inner.get(k, buffer),
-            None => Err(StoreRefusal::Place),
-        }
+        let place = self.below(place)?;
+        self.inner.get(place, buffer)
     }
 }

@@ -1,25 +1,23 @@
-use Rattle.std.proofs.Common.{◌≡◌, ◌-◌, sym, ap, ◌∙◌, add-one, arith, below_more}
+use Rattle.std.proofs.Common.{◌≡◌, suc, ◌-◌, sym, ap, ◌∙◌, arith, below_more}
 use Rattle.field.proofs.Symbols.{symbol_is, product_is}
 use Rattle.code.specs.Codewords.{locator}
 use Rattle.code.proofs.correct.position_of.Goals as goal
 
-pub loop-k-init : goal.loop-k-init
-loop-k-init g c = (sym g.F.NumberSystem.system.one_is, (λ i l e. omega arith))
-
-pub loop-k-preserved : goal.loop-k-preserved
-loop-k-preserved g c =
-    let s = g.F.NumberSystem.system in (
-      c.mul-l.ensures
-          ∙ product_is s c.loop-k.l c.root.result (locator s c.loop-k.k) s.root c.loop-k.invariant.0 (symbol_is s c.root.result s.root c.root.ensures)
-          ∙ ap (λ n. (locator s n).code) (sym (add-one c.loop-k.k)),
-      below_more (λ i. c.args.x ≡ (locator s i).code → ⊥) c.loop-k.k c.loop-k.invariant.1 (λ e. c.if-l-x.false (c.loop-k.invariant.0 ∙ sym e)),
-    )
+pub loop-p-preserved : goal.loop-p-preserved
+loop-p-preserved g c =
+    let s = g.F.NumberSystem.system in
+    let behind = c.args.n - c.loop-p.p in
+    let more : suc behind ≡ c.args.n - (c.loop-p.p - 1) = omega arith in
+    let inv = c.loop-p.invariant in
+    record {
+      next = c.mul-l.ensures
+          ∙ product_is s c.loop-p.l c.ALPHA.result (locator s behind) s.root inv.next (symbol_is s c.ALPHA.result s.root (c.ALPHA.ensures ∙ g.met.F.NumberSystem.root_is))
+          ∙ ap (λ m. (locator s m).code) more;
+      passed = λ i l. below_more (λ i. c.args.x ≡ (locator s i).code → ⊥) behind inv.passed (λ e. c.if-l-x.false (inv.next ∙ sym e)) i (omega arith);
+    }
 
 pub returns-then-l-x : goal.returns-then-l-x
 returns-then-l-x g c =
     let s = g.F.NumberSystem.system in
-    let back : c.args.n - 1 - (c.args.n - 1 - c.loop-k.k) ≡ c.loop-k.k = omega arith in
-    (omega arith, sym c.if-l-x.true ∙ c.loop-k.invariant.0 ∙ ap (λ n. (locator s n).code) (sym back))
-
-pub returns : goal.returns
-returns g c p l e = c.loop-k.invariant.1 (c.args.n - 1 - p) (omega arith) e
+    let here : c.args.n - c.loop-p.p ≡ c.args.n - 1 - (c.loop-p.p - 1) = omega arith in
+    (omega arith, sym c.if-l-x.true ∙ c.loop-p.invariant.next ∙ ap (λ n. (locator s n).code) here)

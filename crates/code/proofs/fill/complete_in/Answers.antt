@@ -1,7 +1,7 @@
-use Rattle.std.proofs.Common.{length, sym, subst, arith}
+use Rattle.std.proofs.Common.{length, sym, ap, ◌∙◌, subst, arith}
 use Rattle.field.specs.Systems.{Symbol}
 use Rattle.code.specs.Equations.{Distinct}
-use Rattle.code.specs.Erasures.{locators}
+use Rattle.code.specs.Erasures.{blanked, locators}
 use Rattle.code.proofs.Distance.{distinct_picked, distinct_locators}
 use Rattle.code.proofs.Completion.{completed}
 use Rattle.code.proofs.fill.complete_in.Goals as goal
@@ -16,6 +16,7 @@ solve-requires g c =
 
 pub returns : goal.returns
 returns g c =
-    completed g.F.NumberSystem.system c.args.unknown.now c.args.symbols.now c.copy_known.new.out c.write_locators.new.out c.write_wanted.new.out
-    c.solve.new.sums c.put_values.new.out c.requires.fits.0 c.copy_known.ensures c.write_locators.ensures
+    let bs = c.args.unknown.now in
+    completed g.F.NumberSystem.system bs c.args.symbols.now c.blank.new.symbols c.write_locators.new.out c.write_wanted.new.out
+    c.solve.new.sums c.put_values.new.out c.requires.fits.0 (c.blank.ensures ∙ ap (blanked 0 bs) c.copy_from_slice.ensures.after) c.write_locators.ensures
     (omega arith) (omega arith) (omega arith) c.write_wanted.ensures c.solve.ensures c.put_values.ensures

@@ -1,33 +1,20 @@
-use Rattle.std.proofs.Common.{◌≡◌, ◌<◌, ◌≤◌, Bool, length, ◌∙◌, arith}
-use Rattle.field.proofs.Sizes.{order_small}
-use Rattle.code.proofs.Places.{length_front, front_within}
-use Rattle.code.proofs.Marks.{last_marked}
+use Rattle.std.proofs.Common.{◌≡◌, ◌-◌, Bool, false, List, length, take, refl, replicate, arith}
+use Rattle.code.proofs.Places.{length_front}
+use Rattle.code.proofs.Marks.{count_front, last_filled}
 use Rattle.code.proofs.Completion.{encoded}
 use Rattle.code.proofs.fill.encode.Goals as goal
 
-pub slice_bounds-marks-end : goal.slice_bounds-marks-end
-slice_bounds-marks-end g c = omega (arith, order_small g.F.NumberSystem.system, c.order.ensures, c.if-n-order.false)
-
-pub slice_bounds-room-end : goal.slice_bounds-room-end
-slice_bounds-room-end g c = omega (arith, order_small g.F.NumberSystem.system, c.order.ensures, c.if-n-order.false)
-
-pub mark_last-requires : goal.mark_last-requires
-mark_last-requires g c =
-    let n = length c.args.symbols.now in
-    let few : n ≤ 255 = omega (arith, order_small g.F.NumberSystem.system, c.order.ensures, c.if-n-order.false) in
-    front_within {A = Bool} _ n c.args.checks few few c.if-checks-n.false
-
 pub returns : goal.returns
 returns g c =
-    let s = g.F.NumberSystem.system in
-    let old = c.args.symbols.now in
-    let bs = c.mark_last.new.places in
+    let sizes = c.in_ok-test_sizes.ensures.sizes in
+    let room = c.in_ok-test_sizes.ensures.room in
     let n = length c.args.symbols.now in
-    let few : n ≤ 255 = omega (arith, order_small g.F.NumberSystem.system, c.order.ensures, c.if-n-order.false) in
-    let long : length bs ≡ n = c.mark_last.auto.places ∙ length_front {A = Bool} _ n few in
-    let short : n < s.order = omega (arith, c.order.ensures, c.if-n-order.false) in (
-      short,
-      c.if-checks-n.false,
-      encoded s c.args.checks bs old c.complete.new.out c.copy_from_slice.new.self long short c.if-checks-n.false
-          (last_marked c.args.checks bs c.mark_last.ensures) c.complete.ensures c.copy_from_slice.ensures.after,
+    let marks : List Bool = replicate 255 false in
+    let front : length (take (n - 0) marks) ≡ n = length_front marks n (omega arith) in (
+      sizes.0,
+      sizes.2,
+      encoded g.F.NumberSystem.system (n - c.args.checks) c.args.checks _ c.args.symbols.now c.complete.new.out c.copy_from_slice.new.self
+          (last_filled (n - c.args.checks) c.args.checks (take (n - 0) marks) c.fill.new.self (omega arith) (count_front (n - 0) marks refl)
+          (c.fill.ensures.after (λ y e. e)))
+          (omega arith) sizes.0 c.complete.ensures c.copy_from_slice.ensures.after,
     )

@@ -1,34 +1,26 @@
-use Rattle.std.proofs.Common.{◌≡◌, ◌-◌, ◌<◌, length, take, drop, sym, refl, ap, ◌∙◌, subst, arith}
-use borrow.Rule.Slice.PartMut.{put_mid}
-use Rattle.code.proofs.SolverLevel.{rest_length, tail_distinct, level}
+use Rattle.std.proofs.Common.{◌≡◌, ◌∷◌, length, sym, ap, subst, arith}
+use Rattle.code.specs.Codewords.{symbols}
+use Rattle.code.specs.Equations.{Distinct}
+use Rattle.code.specs.Solving.{Solved}
+use Rattle.code.proofs.SolverLevel.{level}
 use Rattle.code.proofs.solve.+solve.Goals as goal
 
-pub solve-requires : goal.solve-requires
-solve-requires g t c κs within =
-    let xs = c.args.locators.now in
-    let d = c.eliminate.new.sums in
-    let some : 0 < length xs = omega arith in
-    let fewer : length (take (length xs - 1) (drop 1 xs)) < length xs = omega (arith, rest_length xs) in
-    let measured : length xs ≡ t = c.decreases in (
-      subst (λ n. length (take (length xs - 1) (drop 1 xs)) < n) measured fewer,
-      (
-        within,
-        (
-          rest_length d ∙ ap (λ n. n - 1) (c.eliminate.auto.sums ∙ c.requires.0) ∙ sym (rest_length xs),
-          tail_distinct g.F.NumberSystem.system xs some c.requires.1,
-        ),
-      ),
-    )
-
-pub returns : goal.returns
-returns g t c =
-    let xs = c.args.locators.now in
-    let d = c.eliminate.new.sums in
-    let e = c.solve.new.sums in
-    let f = c.divide.new.values in
-    let p1 = put_mid 1 (length d - 1) d e in
-    let p2 = put_mid 1 (length p1 - 1) p1 f in
-    let some : 0 < length xs = omega arith in
-    level g.F.NumberSystem.system xs c.args.sums.now d e f p1 p2 c.total-others.result c.sub.result some c.requires.0 c.requires.1
-    c.eliminate.auto.sums refl refl c.solve.auto.sums c.divide.auto.values c.eliminate.ensures c.solve.ensures c.divide.ensures
-    c.total-others.ensures c.sub.ensures
+pub returns-in-Some-split_first_mut : goal.returns-in-Some-split_first_mut
+returns-in-Some-split_first_mut g t c =
+    let s = g.F.NumberSystem.system in
+    let xs = c.in-Some.rest.now in
+    let old = c.in-Some-split_first_mut.others.now in
+    let x = c.in-Some.field-0-0.now in
+    let el = c.in-Some.ensures.cases.0 in
+    let es = c.in-Some-split_first_mut.ensures.cases.0 in
+    let ll = ap length el in
+    let ls = ap length es in
+    let lo : length old ≡ length xs = omega arith in
+    let ld : length c.eliminate.new.others ≡ length xs = omega arith in
+    let le : length c.solve.new.sums ≡ length xs = omega arith in
+    let lf : length c.divide.new.values ≡ length xs = omega arith in
+    let new = c.sub.result ∷ c.divide.new.values in
+    subst (λ l. Solved s l c.args.sums.now new) (sym el)
+    (subst (λ l. Solved s (x ∷ xs) l new) (sym es)
+    (level s x c.in-Some-split_first_mut.first.now xs old c.eliminate.new.others c.solve.new.sums c.divide.new.values c.total.result c.sub.result
+    (subst (λ l. Distinct (symbols s l)) el c.requires.1) lo ld le lf c.eliminate.ensures c.solve.ensures c.divide.ensures c.total.ensures c.sub.ensures))

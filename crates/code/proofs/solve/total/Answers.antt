@@ -1,23 +1,18 @@
-use Rattle.std.proofs.Common.{get_or, take, sym, refl, ap, ◌∙◌, take_all}
-use Rattle.field.specs.Systems.{symbol}
+use Rattle.std.proofs.Common.{◌≡◌, sym, refl, ◌∙◌, rules}
+use Rattle.std.proofs.lemmas.Fn.{fold_over, fronts}
+use Rattle.std.proofs.lemmas.Iterator.{YieldsList-from_slice}
+use Rattle.field.specs.Systems.{symbol, sum_of}
+use Rattle.field.proofs.Symbols.{sum_is}
 use Rattle.code.specs.Codewords.{symbols}
 use Rattle.code.specs.Solving.{total}
-use Rattle.field.proofs.Symbols.{sum_is}
-use Rattle.code.proofs.SolverLoops.{total_next}
+use Rattle.code.proofs.SolverLevel.{total_more}
 use Rattle.code.proofs.solve.total.Goals as goal
-
-pub loop-v-init : goal.loop-v-init
-loop-v-init g c = sym g.F.NumberSystem.system.nil_is
-
-pub loop-v-preserved : goal.loop-v-preserved
-loop-v-preserved g c =
-    let s = g.F.NumberSystem.system in
-    let xs = c.args.values.now in
-    let k = c.loop-v.v-index in
-    c.add-r.ensures ∙ sum_is s c.loop-v.r (get_or xs k 0) (total s (symbols s (take k xs))) (symbol s (get_or xs k 0)) c.loop-v.invariant refl
-    ∙ total_next s xs k c.loop-v-test.true
 
 pub returns : goal.returns
 returns g c =
     let s = g.F.NumberSystem.system in
-    c.loop-v.invariant ∙ ap (λ l. (total s (symbols s l)).code) (take_all _ _ c.loop-v-test.false)
+    fold_over fronts (λ y. y.now) _ (λ ys r. r ≡ (total s (symbols s ys)).code) _
+    (λ ys a v b f' h k.
+    let e : b ≡ sum_of s a v.now = search rules in
+    (e ∙ sum_is s a v.now (total s (symbols s ys)) (symbol s v.now) h refl ∙ total_more s ys v.now, search rules))
+    _ c.args.values.now 0 _ (YieldsList-from_slice c.args.values.now c.iter.ensures.rest).runs (sym s.nil_is) c.fold.ensures.ran

@@ -6,4 +6,4 @@ use Rattle.code.proofs.syndrome.locator.Goals as goal
 pub returns : goal.returns
 returns g c =
     let s = g.F.NumberSystem.system in
-    c.power.ensures ∙ ap (λ x. (power s.on x c.args.behind).code) (symbol_is s c.root.result s.root c.root.ensures)
+    c.power.ensures ∙ ap (λ x. (power s.on x c.args.behind).code) (symbol_is s c.ALPHA.result s.root (c.ALPHA.ensures ∙ g.met.F.NumberSystem.root_is))

@@ -1,48 +1,41 @@
-use Rattle.std.proofs.Common.{arith}
-use Rattle.grid.proofs.Parts.{unit_some, step_small, step_some, total_small, total_this, total_others}
+use Rattle.std.proofs.Common.{ap, ◌%◌, ◌∙◌, arith}
+use Rattle.grid.specs.Packing.{part}
+use Rattle.grid.proofs.Parts.{Replacing, replacing}
+use Rattle.grid.proofs.packing.replace_part.Given.{Over}
 use Rattle.grid.proofs.packing.replace_part.Goals as goal
+use Rattle.grid.proofs.packing.replace_part.Goals.{After-from}
 
-pub overflow_mul-above : goal.overflow_mul-above
-overflow_mul-above g c =
-    let s = g.F.NumberSystem.system in
-    omega (arith, step_small s c.args.b c.args.k c.args.v c.weight-w.result c.order-q.result c.ranges.b.fits c.requires c.weight-w.ensures c.order-q.ensures)
-
-pub overflow_mul-above-2 : goal.overflow_mul-above-2
-overflow_mul-above-2 g c =
-    let s = g.F.NumberSystem.system in
-    omega (arith, step_small s c.args.b c.args.k c.args.v c.weight-w.result c.order-q.result c.ranges.b.fits c.requires c.weight-w.ensures c.order-q.ensures)
-
-pub nonzero_div-above : goal.nonzero_div-above
-nonzero_div-above g c =
-    let s = g.F.NumberSystem.system in
-    step_some s c.args.b c.args.k c.args.v c.weight-w.result c.order-q.result c.ranges.b.fits c.requires c.weight-w.ensures c.order-q.ensures
+here : (g : Over) (c : After-from g) → Replacing g.F.NumberSystem.system c.from-b.result c.args.k c.from.result c.weight-w.result c.Q-q.result
+here g c =
+    replacing g.F.NumberSystem.system c.from-b.result c.args.k c.from.result c.weight-w.result c.Q-q.result (omega (arith, c.from-b.ensures, c.ranges.b.fits)) c.requires
+    c.weight-w.ensures (c.Q-q.ensures ∙ g.met.F.NumberSystem.order_is)
 
 pub overflow_mul-result : goal.overflow_mul-result
-overflow_mul-result g c =
-    let s = g.F.NumberSystem.system in
-    omega (arith, total_small s c.args.b c.args.k c.args.v c.weight-w.result c.order-q.result c.ranges.b.fits c.requires c.weight-w.ensures c.order-q.ensures)
+overflow_mul-result g c = omega (arith, (here g c).step_small)
+
+pub nonzero_div-result : goal.nonzero_div-result
+nonzero_div-result g c = (here g c).step_some
+
+pub overflow_mul-result-2 : goal.overflow_mul-result-2
+overflow_mul-result-2 g c = omega (arith, (here g c).step_small)
+
+pub overflow_mul-result-4 : goal.overflow_mul-result-4
+overflow_mul-result-4 g c = omega (arith, (here g c).total_small)
 
 pub overflow_add-result : goal.overflow_add-result
-overflow_add-result g c =
-    let s = g.F.NumberSystem.system in
-    omega (arith, total_small s c.args.b c.args.k c.args.v c.weight-w.result c.order-q.result c.ranges.b.fits c.requires c.weight-w.ensures c.order-q.ensures)
+overflow_add-result g c = omega (arith, (here g c).total_small)
+
+pub nonzero_rem-result : goal.nonzero_rem-result
+nonzero_rem-result g c = (here g c).unit_some
 
 pub overflow_add-result-2 : goal.overflow_add-result-2
-overflow_add-result-2 g c =
-    let s = g.F.NumberSystem.system in
-    omega (arith, total_small s c.args.b c.args.k c.args.v c.weight-w.result c.order-q.result c.ranges.b.fits c.requires c.weight-w.ensures c.order-q.ensures)
+overflow_add-result-2 g c = omega (arith, (here g c).total_small)
 
-pub overflow_cast-result-3 : goal.overflow_cast-result-3
-overflow_cast-result-3 g c =
-    let s = g.F.NumberSystem.system in
-    omega (arith, total_small s c.args.b c.args.k c.args.v c.weight-w.result c.order-q.result c.ranges.b.fits c.requires c.weight-w.ensures c.order-q.ensures)
+pub overflow_cast-result : goal.overflow_cast-result
+overflow_cast-result g c = omega (arith, (here g c).total_small)
 
-pub nonzero_rem-result-2 : goal.nonzero_rem-result-2
-nonzero_rem-result-2 g c =
-    let s = g.F.NumberSystem.system in
-    unit_some s c.args.b c.args.k c.args.v c.weight-w.result c.order-q.result c.ranges.b.fits c.requires c.weight-w.ensures c.order-q.ensures
+pub returns-clause-this : goal.returns-clause-this
+returns-clause-this g c = (here g c).this ∙ ap (λ n. n % g.F.NumberSystem.system.order) c.from.ensures
 
-pub returns : goal.returns
-returns g c =
-    let s = g.F.NumberSystem.system in
-    record { this = total_this s c.args.b c.args.k c.args.v c.weight-w.result c.order-q.result c.ranges.b.fits c.requires c.weight-w.ensures c.order-q.ensures; others = total_others s c.args.b c.args.k c.args.v c.weight-w.result c.order-q.result c.ranges.b.fits c.requires c.weight-w.ensures c.order-q.ensures }
+pub returns-clause-others : goal.returns-clause-others
+returns-clause-others g c j lj ne = (here g c).others j lj ne ∙ ap (λ n. part g.F.NumberSystem.system n j) c.from-b.ensures

@@ -1,5 +1,5 @@
 use Rattle.image.proofs.Cells.{image_sound}
 use Rattle.image.proofs.ImageBlockStore.place_count.Goals as goal
 
-pub returns : goal.returns
-returns c = record { places = c.places_of.ensures.places; sound = image_sound c.args.self.now.width c.args.self.now.memory.now c.places_of.ensures.bytes }
+pub returns-clause-sound : goal.returns-clause-sound
+returns-clause-sound c = rw (← c.self.view_is) (image_sound c.self.inside.width c.self.inside.memory.now c.places_in.ensures.bytes)

@@ -1,11 +1,13 @@
 use Rattle.std.proofs.Common.{sym, ap, ◌∙◌}
+use Rattle.randomizer.specs.Sequence.{sequence_of}
 use Rattle.randomizer.specs.Plain.{good_preset, plain_store}
 use Rattle.randomizer.proofs.Layer.{plain_clear}
 use Rattle.randomizer.proofs.RandomizerBlockStore.clear.Goals as goal
 
-pub returns : goal.returns
-returns g c =
-    let s = c.args.self.now in
+pub returns-clause-after : goal.returns-clause-after
+returns-clause-after g c =
+    let s = c.self.inside in
     let good = good_preset s.preset in
-    let d = plain_clear good s.sequence (g.S.BlockStore.store s.inner) c.args.place (sym c.if-not-is_preset.ensures) in
-    record { reply = c.clear.ensures.reply ∙ d.0; after = ap (plain_store good s.sequence) c.clear.ensures.after ∙ d.1 }
+    let q = sequence_of s.preset in
+    rw (← c.self.view_is)
+    (ap (plain_store good q) c.clear.ensures.after ∙ plain_clear good q (g.S.BlockStore.store s.inner) c.args.place (sym c.if-not-is_preset.ensures))

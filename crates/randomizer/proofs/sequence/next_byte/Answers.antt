@@ -1,4 +1,4 @@
-use Rattle.std.proofs.Common.{◌≡◌, ℕ, ◌/◌, ◌<◌, sym, ap, ◌∙◌, arith, pow_mono}
+use Rattle.std.proofs.Common.{ℕ, ◌/◌, ◌<◌, sym, ap, ◌∙◌, arith, pow_mono}
 use Rattle.randomizer.specs.Sequence.{after, packed, moved}
 use Rattle.randomizer.proofs.Register.{after_none, after_more, packed_none, packed_more, packed_small, bit_small}
 use Rattle.randomizer.proofs.sequence.next_byte.Goals as goal
@@ -28,11 +28,3 @@ loop-i-preserved c =
     let m = packed_more (λ k. after x k / 64) i in
     let e = ap (λ y. y / 64) c.loop-i.invariant.1 in
     (omega arith, c.step-moving.ensures ∙ ap moved c.loop-i.invariant.1 ∙ sym (after_more x i))
-
-pub returns : goal.returns
-returns c =
-    let e : c.loop-i._i ≡ 8 = omega arith in
-    record {
-      byte = c.loop-i.invariant.0 ∙ ap (packed (λ k. after c.args.register k / 64)) e;
-      register = c.loop-i.invariant.1 ∙ ap (after c.args.register) e;
-    }

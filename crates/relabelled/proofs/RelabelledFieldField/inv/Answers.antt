@@ -1,17 +1,9 @@
-use Rattle.std.proofs.Common.{◌≡◌, ◌%◌, sym, refl, ap, ◌∙◌, arith}
-use Rattle.polynomial.proofs.Laws.{partner}
-use Rattle.polynomial.proofs.Moduli.{half_byte_primitive}
-use Rattle.relabelled.specs.Labels.{value_of, label_of}
+use Rattle.std.proofs.Common.{◌%◌, sym, arith}
 use Rattle.relabelled.proofs.Labels.{nil_partner, label_partner}
 use Rattle.relabelled.proofs.RelabelledFieldField.inv.Goals as goal
 
-pub returns-then-a-eq0 : goal.returns-then-a-eq0
-returns-then-a-eq0 c =
-    let none : c.args.a % 16 ≡ 0 = c.if-a-eq0.true in
-    record {
-      partner = sym (ap (λ x. label_of (partner half_byte_primitive (value_of x))) none ∙ nil_partner);
-      labels = λ p. absurd (let z : ⊥ = omega arith in z);
-    }
+pub returns-in-0-clause-partner : goal.returns-in-0-clause-partner
+returns-in-0-clause-partner c = rw c.in-0.is (sym nil_partner)
 
-pub returns-else-a-eq0 : goal.returns-else-a-eq0
-returns-else-a-eq0 c = record { partner = sym (label_partner (c.args.a % 16) (omega arith) (omega arith)); labels = λ p. refl }
+pub returns-in_default-clause-partner : goal.returns-in_default-clause-partner
+returns-in_default-clause-partner c = sym (label_partner (c.args.a % 16) (omega arith) (omega arith))

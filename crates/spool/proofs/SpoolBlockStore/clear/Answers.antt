@@ -1,30 +1,46 @@
-use Rattle.std.proofs.Common.{vec_items, sym, refl, ◌∙◌, arith}
+use Rattle.std.proofs.Common.{None, refl, eqb, ◌<◌}
+use Rattle.std.specs.List.{All, IsDistinct}
 use Rattle.store.proofs.Replies.{clear_done}
 use Rattle.spool.specs.Table.{spool_store}
-use Rattle.spool.proofs.Table.{apart_set, store_replaced, store_blank, places_replaced}
+use Rattle.spool.proofs.Table.{stands, absent, kept_replaced, store_replaced, store_blank, places_replaced, still}
 use Rattle.spool.proofs.SpoolBlockStore.clear.Goals as goal
 
 pub invariant_of-self : goal.invariant_of-self
 invariant_of-self c =
-    let s = c.args.self.now in
-    let first = c.in-Some.ensures in
-    record {
-      distinct = apart_set s.places c.in-Some.i (vec_items s.table) c.blank_entry.result (first.here ∙ sym c.blank_entry.ensures.place) s.distinct;
-      room = s.room;
-      narrow = s.narrow;
-    }
+    let s = c.self.inside in
+    let st = stands s.table.items c.args.place c.in-Some.i (rw c.deref.ensures.value at c.in-Some.ensures) in
+    kept_replaced s c.args.place c.in-Some.i _ c.self.invariant st refl
 
-pub returns-in-Some : goal.returns-in-Some
-returns-in-Some c =
-    let s = c.args.self.now in
-    let d = clear_done (spool_store s.places s.width (vec_items s.table)) _ c.args.place c.if-place-self.false
-    (store_replaced s.places s.width c.args.place c.in-Some.i (vec_items s.table) c.blank_entry.result _ c.if-place-self.false c.in-Some.ensures c.blank_entry.ensures.place (c.blank_entry.ensures.blank s.width)) in
-    record { reply = d.0; after = d.1; order = places_replaced c.in-Some.i (vec_items s.table) c.blank_entry.result (c.in-Some.ensures.here ∙ sym c.blank_entry.ensures.place) }
+pub returns-in-Some-clause-after : goal.returns-in-Some-clause-after
+returns-in-Some-clause-after c =
+    let s = c.self.inside in
+    let st = stands s.table.items c.args.place c.in-Some.i (rw c.deref.ensures.value at c.in-Some.ensures) in
+    rw (← c.self.view_is)
+    (clear_done (spool_store s.places s.width s.table.items) _ c.args.place c.if-place-self.false
+    (store_replaced s.places s.width c.args.place c.in-Some.i s.table.items _ None c.if-place-self.false st refl refl))
 
-pub returns-in_default : goal.returns-in_default
-returns-in_default c =
-    let s = c.args.self.now in
-    let len = s.table.ok.0 in
-    let d = clear_done (spool_store s.places s.width (vec_items s.table)) _ c.args.place c.if-place-self.false
-    (store_blank s.places s.width c.args.place (vec_items s.table) c.if-place-self.false (λ k h. c.in_default.ensures k (omega arith))) in
-    record { reply = d.0; after = d.1; order = refl }
+pub returns-in-Some-clause-order : goal.returns-in-Some-clause-order
+returns-in-Some-clause-order c =
+    let s = c.self.inside in
+    let st = stands s.table.items c.args.place c.in-Some.i (rw c.deref.ensures.value at c.in-Some.ensures) in
+    rw (← c.self.view_is) (places_replaced s.table.items c.args.place c.in-Some.i _ st refl)
+
+pub returns-in_default-clause-after : goal.returns-in_default-clause-after
+returns-in_default-clause-after c =
+    let s = c.self.inside in
+    let none = absent s.table.items c.args.place (rw c.deref.ensures.value at c.in_default.ensures) in
+    rw (← c.self.view_is)
+    (clear_done (spool_store s.places s.width s.table.items) _ c.args.place c.if-place-self.false
+    (store_blank s.places s.width c.args.place s.table.items c.if-place-self.false none))
+
+pub returns-in-Some-clause-distinct : goal.returns-in-Some-clause-distinct
+returns-in-Some-clause-distinct c =
+    let s = c.self.inside in
+    let st = stands s.table.items c.args.place c.in-Some.i (rw c.deref.ensures.value at c.in-Some.ensures) in
+    still (IsDistinct eqb) s.table.items c.args.place c.in-Some.i _ c.self.invariant.distinct st refl
+
+pub returns-in-Some-clause-below : goal.returns-in-Some-clause-below
+returns-in-Some-clause-below c =
+    let s = c.self.inside in
+    let st = stands s.table.items c.args.place c.in-Some.i (rw c.deref.ensures.value at c.in-Some.ensures) in
+    still (All (λ q. q < s.places)) s.table.items c.args.place c.in-Some.i _ c.self.invariant.below st refl

@@ -1,63 +1,77 @@
-use Rattle.std.proofs.Common.{◌≡◌, length, Some, vec_items, sym, ap, ◌∙◌, arith}
+use Rattle.std.proofs.Common.{◌≡◌, length, take, Some, sym, refl, ap, ◌∙◌, arith, eqb, ◌<◌}
+use Rattle.std.specs.List.{All, IsDistinct}
 use Rattle.store.proofs.Replies.{put_done}
-use Rattle.spool.specs.Table.{held, spool_store}
-use Rattle.spool.proofs.Table.{Absent, apart_set, apart_pushed, room, store_replaced, store_pushed, order_replaced, order_pushed, wide_enough}
+use Rattle.spool.specs.Table.{spool_store}
+use Rattle.spool.proofs.Table.{stands, absent, room, kept_replaced, kept_pushed, store_replaced, store_pushed, order_replaced, order_pushed, still}
 use Rattle.spool.proofs.SpoolBlockStore.put.Goals as goal
-
-pub full_entry-entry-requires : goal.full_entry-entry-requires
-full_entry-entry-requires c = let s = c.args.self.now in let w = wide_enough s.places s.width c.args.place s.narrow c.if-place-self.false in omega arith
 
 pub invariant_of-self : goal.invariant_of-self
 invariant_of-self c =
-    let s = c.args.self.now in
-    let first = c.in-Some.ensures in
-    record {
-      distinct = apart_set s.places c.in-Some.i (vec_items s.table) c.full_entry-entry.result (first.here ∙ sym c.full_entry-entry.ensures.place) s.distinct;
-      room = s.room;
-      narrow = s.narrow;
-    }
+    let s = c.self.inside in
+    let st = stands s.table.items c.args.place c.in-Some.i (rw c.deref.ensures.value at c.in-Some.ensures) in
+    kept_replaced s c.args.place c.in-Some.i _ c.self.invariant st refl
 
 pub push_reserved-requires : goal.push_reserved-requires
 push_reserved-requires c =
-    let s = c.args.self.now in
+    let s = c.self.inside in
     let len = s.table.ok.0 in
-    let absent : Absent (vec_items s.table) c.args.place = λ k h. c.in-None.ensures k (omega arith) in
-    let r = room s.places c.args.place (vec_items s.table) c.if-place-self.false absent s.distinct in
-    let cap = s.room in
+    let none = absent s.table.items c.args.place (rw c.deref.ensures.value at c.in-None.ensures) in
+    let r = room s.places c.args.place s.table.items c.if-place-self.false none c.self.invariant.distinct c.self.invariant.below in
+    let cap = c.self.invariant.room in
     omega arith
 
 pub invariant_of-self-in-None : goal.invariant_of-self-in-None
 invariant_of-self-in-None c =
-    let s = c.args.self.now in
-    let len = s.table.ok.0 in
-    let absent : Absent (vec_items s.table) c.args.place = λ k h. c.in-None.ensures k (omega arith) in
-    let cap = s.room in
-    record {
-      distinct = apart_pushed s.places c.args.place (vec_items s.table) _ c.full_entry-entry.result c.if-place-self.false absent c.full_entry-entry.ensures.place c.push_reserved.ensures.items s.distinct;
-      room = omega (arith, c.push_reserved.ensures.capacity);
-      narrow = s.narrow;
-    }
+    let s = c.self.inside in
+    let none = absent s.table.items c.args.place (rw c.deref.ensures.value at c.in-None.ensures) in
+    kept_pushed s c.push_reserved.new.self c.args.place _ c.if-place-self.false c.self.invariant none refl c.push_reserved.ensures.items c.push_reserved.ensures.capacity
 
-pub returns-in-Some : goal.returns-in-Some
-returns-in-Some c =
-    let s = c.args.self.now in
+pub returns-in-Some-clause-after : goal.returns-in-Some-clause-after
+returns-in-Some-clause-after c =
+    let s = c.self.inside in
     let block = c.args.block.now in
-    let y = c.full_entry-entry.result in
+    let st = stands s.table.items c.args.place c.in-Some.i (rw c.deref.ensures.value at c.in-Some.ensures) in
     let wide : length block ≡ s.width = omega arith in
-    let eo : held s.width y ≡ Some block = ap (λ w. held w y) (sym wide) ∙ c.full_entry-entry.ensures.held in
-    let d = put_done (spool_store s.places s.width (vec_items s.table)) _ c.args.place block c.if-place-self.false wide
-    (store_replaced s.places s.width c.args.place c.in-Some.i (vec_items s.table) y _ c.if-place-self.false c.in-Some.ensures c.full_entry-entry.ensures.place eo) in
-    record { reply = d.0; after = d.1; order = order_replaced s.places s.width c.args.place c.in-Some.i (vec_items s.table) y block c.if-place-self.false wide c.in-Some.ensures c.full_entry-entry.ensures.place }
+    rw (← c.self.view_is)
+    (put_done (spool_store s.places s.width s.table.items) _ c.args.place block c.if-place-self.false wide
+    (store_replaced s.places s.width c.args.place c.in-Some.i s.table.items _ (Some block) c.if-place-self.false st refl (ap Some (ap (λ w. take w c.padded.result) (sym wide) ∙ c.padded.ensures.front))))
 
-pub returns-in-None : goal.returns-in-None
-returns-in-None c =
-    let s = c.args.self.now in
+pub returns-in-Some-clause-order : goal.returns-in-Some-clause-order
+returns-in-Some-clause-order c =
+    let s = c.self.inside in
+    let st = stands s.table.items c.args.place c.in-Some.i (rw c.deref.ensures.value at c.in-Some.ensures) in
+    rw (← c.self.view_is) (order_replaced s.places s.width c.args.place c.in-Some.i s.table.items _ c.args.block.now c.if-place-self.false (omega arith) st refl)
+
+pub returns-in-None-clause-after : goal.returns-in-None-clause-after
+returns-in-None-clause-after c =
+    let s = c.self.inside in
     let block = c.args.block.now in
-    let y = c.full_entry-entry.result in
-    let len = s.table.ok.0 in
-    let absent : Absent (vec_items s.table) c.args.place = λ k h. c.in-None.ensures k (omega arith) in
+    let none = absent s.table.items c.args.place (rw c.deref.ensures.value at c.in-None.ensures) in
     let wide : length block ≡ s.width = omega arith in
-    let eo : held s.width y ≡ Some block = ap (λ w. held w y) (sym wide) ∙ c.full_entry-entry.ensures.held in
-    let d = put_done (spool_store s.places s.width (vec_items s.table)) _ c.args.place block c.if-place-self.false wide
-    (store_pushed s.places s.width c.args.place (vec_items s.table) _ y _ c.if-place-self.false absent c.full_entry-entry.ensures.place eo c.push_reserved.ensures.items) in
-    record { reply = d.0; after = d.1; order = order_pushed s.places s.width c.args.place (vec_items s.table) _ y block c.if-place-self.false wide absent c.full_entry-entry.ensures.place c.push_reserved.ensures.items }
+    rw (← c.self.view_is)
+    (put_done (spool_store s.places s.width s.table.items) _ c.args.place block c.if-place-self.false wide
+    (store_pushed s.places s.width c.args.place s.table.items _ _ (Some block) c.if-place-self.false none refl (ap Some (ap (λ w. take w c.padded.result) (sym wide) ∙ c.padded.ensures.front)) c.push_reserved.ensures.items))
+
+pub returns-in-None-clause-order : goal.returns-in-None-clause-order
+returns-in-None-clause-order c =
+    let s = c.self.inside in
+    let none = absent s.table.items c.args.place (rw c.deref.ensures.value at c.in-None.ensures) in
+    rw (← c.self.view_is) (order_pushed s.places s.width c.args.place s.table.items _ _ c.args.block.now c.if-place-self.false (omega arith) none refl c.push_reserved.ensures.items)
+
+pub returns-in-Some-clause-distinct : goal.returns-in-Some-clause-distinct
+returns-in-Some-clause-distinct c =
+    let s = c.self.inside in
+    let st = stands s.table.items c.args.place c.in-Some.i (rw c.deref.ensures.value at c.in-Some.ensures) in
+    still (IsDistinct eqb) s.table.items c.args.place c.in-Some.i _ c.self.invariant.distinct st refl
+
+pub returns-in-Some-clause-below : goal.returns-in-Some-clause-below
+returns-in-Some-clause-below c =
+    let s = c.self.inside in
+    let st = stands s.table.items c.args.place c.in-Some.i (rw c.deref.ensures.value at c.in-Some.ensures) in
+    still (All (λ q. q < s.places)) s.table.items c.args.place c.in-Some.i _ c.self.invariant.below st refl
+
+pub returns-in-None-clause-distinct : goal.returns-in-None-clause-distinct
+returns-in-None-clause-distinct c =
+    let s = c.self.inside in
+    let none = absent s.table.items c.args.place (rw c.deref.ensures.value at c.in-None.ensures) in
+    (kept_pushed s c.push_reserved.new.self c.args.place _ c.if-place-self.false c.self.invariant none refl c.push_reserved.ensures.items c.push_reserved.ensures.capacity).distinct

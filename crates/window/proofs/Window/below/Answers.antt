@@ -5,7 +5,7 @@ use Rattle.window.proofs.Window.below.Goals as goal
 
 pub overflow_add-result : goal.overflow_add-result
 overflow_add-result g c =
-    let s = c.args.self.now in
+    let s = c.self.inside in
     let n = c.place_count-places.result in
     let lt : c.args.place < window_places s.first s.count n = omega arith in
     let there = (below_is s.first s.count n c.args.place lt).there in

@@ -1,57 +1,76 @@
-use Rattle.std.proofs.Common.{◌+◌, ◌*◌, ◌<◌, sym, refl, ap, subst, arith}
-use Rattle.std.proofs.lemmas.Bool.{ltb-true, ltb-false}
-use Rattle.field.proofs.Sizes.{per_some}
-use Rattle.grid.specs.Grids.{rows_of, row_bytes}
-use Rattle.grid.proofs.Fitting.{long_rows, other_length, right_length, wide, over, under, product_small}
+use Rattle.std.proofs.Common.{◌≡◌, ◌-◌, ◌*◌, ◌/◌, ◌<◌, ◌≤◌, Err, sym, refl, ap, ◌∙◌, ap₂, mul-le-mul_right, arith}
+use Rattle.std.proofs.lemmas.Result.{err_from_is_err_and}
+use Rattle.field.proofs.Sizes.{order_small}
+use Rattle.grid.specs.Grids.{rows_of, row_bytes, row_symbols}
+use Rattle.grid.proofs.Fitting.{long_rows, other_length, right_length, over, under, product_small}
+use Rattle.grid.proofs.shape.Shape.measure.Given.{Over}
 use Rattle.grid.proofs.shape.Shape.measure.Goals as goal
+use Rattle.grid.proofs.shape.Shape.measure.Goals.{In_ok-width}
 
-pub returns-then-not-sum_below-2 : goal.returns-then-not-sum_below-2
-returns-then-not-sum_below-2 g c =
+few : (g : Over) (c : In_ok-width g) → rows_of c.args.self.now < g.F.NumberSystem.system.order
+few g c =
+    let e = c.in_ok-rows.ensures.ok in
+    omega (arith, e.0, e.1, c.from-most.ensures, (c.Q.ensures ∙ g.met.F.NumberSystem.order_is), g.F.NumberSystem.system.some)
+
+fits : (g : Over) (c : In_ok-width g) → row_bytes c.args.self.now ≤ (c.from-most.result - 1) / c.PER_BYTE-m.result
+fits g c = let e = c.in_ok-width.ensures.ok in omega (arith, e.0, e.1)
+
+short : (g : Over) (c : In_ok-width g) → row_symbols g.F.NumberSystem.system c.args.self.now < g.F.NumberSystem.system.order
+short g c =
+    under g.F.NumberSystem.system (row_bytes c.args.self.now) c.from-most.result c.PER_BYTE-m.result (c.from-most.ensures ∙ (c.Q.ensures ∙ g.met.F.NumberSystem.order_is))
+    (c.PER_BYTE-m.ensures ∙ g.met.F.NumberSystem.per_is) (fits g c)
+
+pub returns-in_err-width : goal.returns-in_err-width
+returns-in_err-width g c =
     let s = g.F.NumberSystem.system in
-    long_rows s c.args.self.now c.args.bytes (wide s (row_bytes c.args.self.now) (omega (arith, ltb-false _ _ (sym c.if-not-sum_below-2.ensures), c.order-q.ensures)))
-
-pub nonzero_div-q : goal.nonzero_div-q
-nonzero_div-q g c = subst (λ n. 0 < n) (sym c.symbols_per_byte-m.ensures) (per_some g.F.NumberSystem.system)
-
-pub returns-then-width-q : goal.returns-then-width-q
-returns-then-width-q g c =
-    let s = g.F.NumberSystem.system in
-    long_rows s c.args.self.now c.args.bytes (over s (row_bytes c.args.self.now) c.order-q.result c.symbols_per_byte-m.result c.order-q.ensures c.symbols_per_byte-m.ensures c.if-width-q.true)
+    let p = err_from_is_err_and c.from_residual-in_err-width.result c.from_residual-in_err-width.ensures.1 in
+    rw (p.1, p.2)
+    (long_rows s c.args.self.now c.args.bytes (over s (row_bytes c.args.self.now) c.from-most.result c.PER_BYTE-m.result (c.from-most.ensures ∙ (c.Q.ensures ∙ g.met.F.NumberSystem.order_is)) (c.PER_BYTE-m.ensures ∙ g.met.F.NumberSystem.per_is) c.in_err-width.ensures.err.1)
+    ∙ ap Err (sym c.in_err-width.ensures.err.0))
 
 pub returns-then-rows-width : goal.returns-then-rows-width
 returns-then-rows-width g c =
-    let s = g.F.NumberSystem.system in
-    let few : rows_of c.args.self.now < s.order = omega (arith, ltb-true _ _ (sym c.if-not-sum_below.ensures), c.order-q.ensures) in
-    other_length s c.args.self.now c.args.bytes few (under s (row_bytes c.args.self.now) c.order-q.result c.symbols_per_byte-m.result c.order-q.ensures c.symbols_per_byte-m.ensures c.if-width-q.false) c.if-rows-width.true
-
-pub overflow_mul-result : goal.overflow_mul-result
-overflow_mul-result g c =
-    let s = g.F.NumberSystem.system in
-    omega (arith, product_small s (row_bytes c.args.self.now) c.order-q.result c.symbols_per_byte-m.result c.order-q.ensures c.symbols_per_byte-m.ensures (row_bytes c.args.self.now) (omega arith) c.if-width-q.false)
+    let here = (goal.at.returns-then-rows-width g c).In_ok-width in
+    other_length g.F.NumberSystem.system c.args.self.now c.args.bytes (few g here) (short g here)
+    (λ e. c.if-rows-width.true (ap₂ (λ x y. x * y) c.in_ok-rows.ensures.ok.0 c.in_ok-width.ensures.ok.0 ∙ e))
 
 pub overflow_mul-result-2 : goal.overflow_mul-result-2
 overflow_mul-result-2 g c =
     let s = g.F.NumberSystem.system in
-    omega (arith, product_small s (row_bytes c.args.self.now) c.order-q.result c.symbols_per_byte-m.result c.order-q.ensures c.symbols_per_byte-m.ensures c.args.self.now.data_bytes (omega arith) c.if-width-q.false)
+    omega (
+      arith,
+      product_small s (row_bytes c.args.self.now) c.from-most.result c.PER_BYTE-m.result (c.from-most.ensures ∙ (c.Q.ensures ∙ g.met.F.NumberSystem.order_is)) (c.PER_BYTE-m.ensures ∙ g.met.F.NumberSystem.per_is) c.args.self.now.data_bytes (omega arith)
+          (fits g (goal.at.overflow_mul-result-2 g c).In_ok-width),
+    )
 
-pub overflow_mul-result-3 : goal.overflow_mul-result-3
-overflow_mul-result-3 g c =
+pub invariant_of-result : goal.invariant_of-result
+invariant_of-result g c =
     let s = g.F.NumberSystem.system in
-    omega (arith, product_small s (row_bytes c.args.self.now) c.order-q.result c.symbols_per_byte-m.result c.order-q.ensures c.symbols_per_byte-m.ensures c.args.self.now.check_bytes (omega arith) c.if-width-q.false)
+    let here = (goal.at.invariant_of-result g c).In_ok-width in
+    let e = c.in_ok-rows.ensures.ok in
+    let w = c.in_ok-width.ensures.ok in
+    let o = order_small s in
+    record {
+      few = omega (arith, few g here);
+      short = omega (arith, ap₂ (λ x y. x * y) w.0 (c.PER_BYTE-m.ensures ∙ g.met.F.NumberSystem.per_is), short g here);
+      row_part = omega (arith, e.0);
+      column_part = mul-le-mul_right c.PER_BYTE-m.result (omega (arith, w.0));
+    }
 
 pub returns : goal.returns
 returns g c =
     let s = g.F.NumberSystem.system in
-    let sh = c.args.self.now in
-    let few : rows_of sh < s.order = omega (arith, ltb-true _ _ (sym c.if-not-sum_below.ensures), c.order-q.ensures) in
-    let short = under s (row_bytes c.args.self.now) c.order-q.result c.symbols_per_byte-m.result c.order-q.ensures c.symbols_per_byte-m.ensures c.if-width-q.false in
+    let here = (goal.at.returns g c).In_ok-width in
+    let long : rows_of c.args.self.now * row_bytes c.args.self.now ≡ c.args.bytes =
+    ap₂ (λ x y. x * y) (sym c.in_ok-rows.ensures.ok.0) (sym c.in_ok-width.ensures.ok.0) ∙ c.if-rows-width.false
+    in
     record {
-      fits = right_length s c.args.self.now c.args.bytes few short c.if-rows-width.false;
-      rows = refl;
-      symbols = ap (λ n. (sh.data_bytes + sh.check_bytes) * n) c.symbols_per_byte-m.ensures;
-      data' = ap (λ n. sh.data_bytes * n) c.symbols_per_byte-m.ensures;
-      checks = ap (λ n. sh.check_bytes * n) c.symbols_per_byte-m.ensures;
-      few = few;
-      short = short;
-      long = sym c.if-rows-width.false;
+      fits = right_length s c.args.self.now c.args.bytes (few g here) (short g here) long;
+      rows = c.in_ok-rows.ensures.ok.0;
+      check_rows = refl;
+      columns = ap₂ (λ x y. x * y) c.in_ok-width.ensures.ok.0 (c.PER_BYTE-m.ensures ∙ g.met.F.NumberSystem.per_is);
+      data_columns = ap (λ n. c.args.self.now.data_bytes * n) (c.PER_BYTE-m.ensures ∙ g.met.F.NumberSystem.per_is);
+      few = few g here;
+      short = short g here;
+      long = sym long;
     }

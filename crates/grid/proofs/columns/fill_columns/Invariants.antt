@@ -1,8 +1,0 @@
-use Rattle.grid.specs.Lines.{FilledIf}
-use Rattle.grid.proofs.GridWork.{ColumnsDone}
-use Rattle.grid.proofs.columns.fill_columns.Given as goal
-
-abbrev pub invariant-loop-j : goal.invariant-loop-j
-invariant-loop-j g l =
-    let s = g.F.NumberSystem.system in
-    ColumnsDone s l.shape (FilledIf s l.shape.check_rows l.lost) l.j l.initial.bytes l.bytes

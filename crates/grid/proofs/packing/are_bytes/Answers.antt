@@ -1,4 +1,0 @@
-use Rattle.grid.proofs.packing.are_bytes.Goals as goal
-
-pub returns : goal.returns
-returns c i = (c.type_inv.bytes i).fits

@@ -1,7 +1,0 @@
-use Rattle.store.specs.Store.{at}
-use Rattle.sector.specs.Recovery.{Surveyed}
-use Rattle.sector.proofs.recover.survey.Given as goal
-
-abbrev pub invariant-loop-r : goal.invariant-loop-r
-invariant-loop-r g l =
-    Surveyed g.F.NumberSystem.system l.terms (at (g.S.BlockStore.store l.store)) l.r l.bodies l.lost l.broken
