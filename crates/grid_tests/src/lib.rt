@@ -34,8 +34,8 @@ mod tests {
 
     // Writes 0, 1, 2 and so on, and 0 again after 250.
     fn count_up(bytes: &mut [u8]) {
-        for (i, byte) in bytes.iter_mut().enumerate() {
-            *byte = (i % 251) as u8;
+        for (byte, n) in bytes.iter_mut().zip((0..251u8).cycle()) {
+            *byte = n;
         }
     }
 

@@ -21,6 +21,7 @@ use store::{BlockStore, MOST_PLACES, MOST_WIDTH, StoreRefusal, is_width};
 pub struct Spool {
     places: usize,
     width: usize,
+    // a list and no map: the order of arrival is promised, and the memory is taken once
     table: Vec<Entry>,
 }
 
