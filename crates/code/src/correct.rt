@@ -63,7 +63,8 @@ fn locate<F: Field>(n: usize, syndromes: &[u8]) -> Option<usize>
     position_of::<F>(n, x)
 }
 
-// The same as `correct`, with room for the syndromes, one for each check.
+// The same as `correct`, with room for the syndromes, one for each check. That the list is short is asked as it stands: a struct of
+// the list would be made for this call.
 fn correct_in<F: Field>(symbols: &mut [u8], syndromes: &mut [u8]) -> Verdict
     requires { (length symbols.old < F.NumberSystem.system.order) × (2 ≤ length syndromes.old) }
     ensures { Judged F.NumberSystem.system (length syndromes.old) symbols.old symbols.new result }

@@ -73,7 +73,7 @@ fn put_values(unknown: &[bool], values: &[u8], out: &mut [u8])
 
 // Copies the symbols, with the unknown ones such that as many syndromes are 0; the last two slices are room for one number for
 // each unknown symbol.
-// That the lengths agree is asked as it stands: a struct of these slices would be made for one call.
+// That the lengths agree, and are short, is asked as it stands: a struct of these slices would be made anew for each call.
 fn complete_in<F: Field>(
     symbols: &[u8],
     unknown: &[bool],
@@ -94,7 +94,7 @@ fn complete_in<F: Field>(
     put_values(unknown, values, out);
 }
 
-// Copies the symbols, with the unknown ones such that as many syndromes are 0.
+// Copies the symbols, with the unknown ones such that as many syndromes are 0. The lengths are asked as they stand, as above.
 #[tactic(auto, using(crate::proofs::Marks::count_at_most))]
 fn complete<F: Field>(symbols: &[u8], unknown: &[bool], out: &mut [u8])
     requires fits { (length unknown.now ≡ length symbols.now) × (length out.old ≡ length symbols.now) }

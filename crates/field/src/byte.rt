@@ -128,7 +128,8 @@ impl NumberSystem for ByteField {
         if a == 0 || b == 0 {
             0
         } else {
-            // `as` and no `u16::from`, which is a call of its own to the proof
+            // `as` and no `u16::from`, which is a call of its own to the proof; the remainder fits, where
+            // `try_from` would want an answer that never comes
             power_of(((logarithm_of(a) as u16 + logarithm_of(b) as u16) % 255) as u8)
         }
     }

@@ -49,7 +49,7 @@ pub fn column_syndromes<F: NumberSystem>(
     Ok(())
 }
 
-// Flags for the lost rows, as `fill` takes them for the unknown symbols of a column.
+// Flags and no `Option`s for the lost rows: a refused call leaves them as they were.
 
 /// Fills the data bytes of the lost rows with the only ones that make every column a codeword. Their check bytes stay as they
 /// were: encode the rows after it. Every column is looked at before any is written, so that a refusal leaves the bytes alone.

@@ -82,7 +82,7 @@ fn write_all<F: Field, S: BlockStore>(
     ensures terms { sector.new.terms ≡ sector.old.terms }
 {
     let n = writes.len().min(replies.len());
-    // by index, as above
+    // by index, since a proof keeps no write that is made through a `zip` of `iter_mut`
     for (i, write) in writes[..n].iter().enumerate() {
         replies[i] = sector.write(write.row, write.bytes).map(|()| Outcome::Done);
     }

@@ -107,7 +107,7 @@ fn close_rows<F: Field, S: BlockStore>(terms: &Terms, marks: &[bool], store: &mu
     put_rows(terms, store, flat, &every[0..layout.rows()]);
 }
 
-// A write tests its row and its length itself, as the calls on closed sectors do.
+// A write tests its row and its length itself, so that the order of its refusals is read there.
 impl<F: Field, S: BlockStore> OpenSector<F, S> {
     /// Writes the data bytes of a data row: puts its block at its place, over what was there, and marks the row.
     pub fn write(&mut self, row: usize, bytes: &[u8]) -> Result<(), Refusal>

@@ -81,7 +81,8 @@ pub(crate) fn put_rows<S: BlockStore>(terms: &Terms, store: &mut S, bodies: &[u8
     ensures { RowsWritten terms.now bodies.now flags.now (S.BlockStore.store store.old) (S.BlockStore.store store.new) }
 {
     let n = terms.layout.body_bytes();
-    // by number, which is the row's place in the store too
+    // by number, which is the row's place in the store too: over `chunks` and a `zip` the loop's invariant speaks of what the
+    // iterator has yielded, and is no plainer
     for (r, flag) in flags.iter().enumerate() {
         if *flag {
             let start = r * n;
