@@ -30,10 +30,10 @@ module _ {q : ℕ} where
   first_differs (x ∷ xs) (suc p) v d l n = rw (same_code x, first_differs xs p v d (le_of_suc-le-suc l) n) refl
 
 module _ (s : System) (xs : Symbols s) where
-  clean_judged : judgement s xs (Some xs) ≡ Clean
+  pub clean_judged : judgement s xs (Some xs) ≡ Clean
   clean_judged = rw (none_differ xs, judgement)
 
-  corrected_judged : (p : ℕ) (v d : Symbol s.order) → p < length xs → get_or xs p d ≢ v → judgement s xs (Some (set xs p v)) ≡ Corrected p
+  pub corrected_judged : (p : ℕ) (v d : Symbol s.order) → p < length xs → get_or xs p d ≢ v → judgement s xs (Some (set xs p v)) ≡ Corrected p
   corrected_judged p v d l n = rw (first_differs xs p v d l n, judgement)
 
 module _ (s : System) (c : ℕ) (xs : Symbols s) (enough : 2 ≤ c) (short : length xs ≤ s.order - 1) where

@@ -4,12 +4,13 @@ ghost use Rattle.block.specs.Identification.{parity, id_parity, written_id0, wri
 
 use crate::layout::Layout;
 
-// The parity of some bits of `c`: 1 if an odd number of them are 1.
+// The parity of some bits of `c`: 1 if an odd number of them are 1. It sums them: a count of those that are 1 would branch at each.
 fn parity_of(c: u16, bits: &[u16]) -> u8
     requires { All (λ i. i < 16) bits.now }
     ensures { result ≡ parity c bits.now }
 {
-    u8::from(bits.iter().filter(|&&i| (c >> i) % 2 == 1).count() % 2 == 1)
+    let ones: usize = bits.iter().map(|&i| usize::from((c >> i) % 2)).sum();
+    u8::from(ones % 2 == 1)
 }
 
 // For each bit of IDP, from the top, the bits of ID0 and ID1 (15 down to 0) whose parity it is.

@@ -2,15 +2,20 @@
 use Rattle.std.proofs.Common.{◌≡◌, ℕ, zero, suc, ◌+◌, ◌-◌, ◌<◌, ◌≤◌, Bool, true, false, cond, List, [], ◌∷◌, ◌++◌, length, get_or, take, drop, set, sym, refl, ap, ◌∙◌, subst, ap₂, append_assoc, le_of_suc-le-suc, add-one, arith, replicate, length-append, length-take, length-drop, drop-cons}
 use native.Mathlib.Nat.{suc_inj}
 use Rattle.std.proofs.lemmas.List.{ext_get_or, append-nil, get_or-replicate, length-replicate, drop-set-lt, set-get_or, take-append-drop, take_more, take_more_set, take_all, drop_all}
-use Rattle.std.specs.List.{filter}
+use Rattle.std.specs.List.{sum_by}
+use Rattle.std.proofs.lemmas.List.Sums.{sum_by-cons}
 use borrow.Rule.Slice.PartMut.{put_mid}
 use Rattle.code.specs.Codewords.{count}
 use Rattle.code.specs.Erasures.{blanked, merged}
 
-pub length_marks : (bs : List Bool) → length (filter (λ b. b) bs) ≡ count bs
-length_marks [] = refl
-length_marks (true ∷ bs) = ap suc (length_marks bs)
-length_marks (false ∷ bs) = length_marks bs
+-- 1 for a mark, and 0 for none
+abbrev pub bit_of : Bool → ℕ
+bit_of b = cond b 1 0
+
+pub sum_marks : (bs : List Bool) → sum_by bit_of bs ≡ count bs
+sum_marks [] = refl
+sum_marks (true ∷ bs) = rw (sum_by-cons bit_of true bs) (omega (arith, sum_marks bs))
+sum_marks (false ∷ bs) = rw (sum_by-cons bit_of false bs) (omega (arith, sum_marks bs))
 
 pub count_at_most : (bs : List Bool) → count bs ≤ length bs
 count_at_most [] = omega arith

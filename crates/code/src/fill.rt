@@ -16,7 +16,7 @@ use field::{Field, NumberSystem};
 pub fn count_unknown(unknown: &[bool]) -> usize
     ensures { result ≡ count unknown.now }
 {
-    unknown.iter().filter(|&&u| u).count()
+    unknown.iter().map(|&u| usize::from(u)).sum()
 }
 
 // Writes 0 for the unknown symbols.

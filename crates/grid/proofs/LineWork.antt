@@ -70,7 +70,7 @@ module _ (s : System) where
         at i h (no ne) = others (i * l.step + l.start) (before i (omega arith)) ∙ w.online i (omega arith)
 
   -- a line that was copied out, made another list of symbols, and copied back
-  redone : (P : List ℕ → List ℕ → Type 0) (l : Line) (old new before after : List ℕ) → before ≡ on s l old → length after ≡ l.len
+  pub redone : (P : List ℕ → List ℕ → Type 0) (l : Line) (old new before after : List ℕ) → before ≡ on s l old → length after ≡ l.len
       → Written s l l.len after old new → ((i : ℕ) → i < length after → get_or after i 0 < s.order) → P before after → Redone s l P old new
   redone P l old new before after eb la w small p = record {
     done = subst (λ (x : List ℕ). P x (on s l new)) eb (subst (λ (x : List ℕ). P before x) is p);

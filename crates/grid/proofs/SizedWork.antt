@@ -18,7 +18,7 @@ use Rattle.grid.proofs.GridWork.{changed, RowsDone, rows_more, ColumnsDone, colu
 
 module _ {s : System} {sh : Shape} {len : ℕ} {g : Grid} (h : Sized s sh len g) where
   -- the bytes of the grid have so many symbols
-  grid_symbols : len * s.per ≡ rows_of sh * row_symbols s sh
+  pub grid_symbols : len * s.per ≡ rows_of sh * row_symbols s sh
   grid_symbols = ap (λ b. b * s.per) h.long ∙ mul_assoc (rows_of sh) (row_bytes sh) s.per
 
   module _ {r : ℕ} {l : Line} (e : IsRow g r l) where

@@ -1,8 +1,9 @@
 -- The grid of a shape that fits, and its lines.
-use Rattle.std.specs.Prelude.{◌≡◌, ℕ, ◌*◌, ◌-◌, ◌<◌, Ok, Err, Result}
+use Rattle.std.specs.Prelude.{◌≡◌, ℕ, ◌*◌, ◌-◌, ◌<◌, Bool, true, false, List, Ok, Err, Result}
 use Rattle.field.specs.Systems.{System}
 use Rattle.code.specs.declared.error.CodeError.{CodeError}
-use Rattle.grid.specs.Grids.{rows_of, row_bytes, row_symbols, data_symbols, fitting}
+use Rattle.grid.specs.Grids.{rows_of, row_bytes, row_symbols, data_symbols, column, fitting}
+use Rattle.grid.specs.Fillable.{Fillable}
 use Rattle.grid.specs.declared.shape.Shape.{Shape}
 use Rattle.grid.specs.declared.shape.Grid.{Grid}
 use Rattle.grid.specs.declared.lines.Line.{Line}
@@ -22,6 +23,11 @@ module _ (s : System) where
   abbrev pub Measured : Shape → ℕ → Result Grid CodeError → Type 0
   Measured sh bytes (Ok g) = Sized sh bytes g
   Measured sh bytes (Err e) = fitting s sh bytes ≡ Err e
+
+  -- whether the lost rows can be filled in every column: where not, some column shows it
+  abbrev pub AllFillable : Shape → List Bool → List ℕ → Bool → Type 0
+  AllFillable sh lost bytes true = (j : ℕ) → j < data_symbols s sh → Fillable s sh.check_rows lost (column s sh bytes j)
+  AllFillable sh lost bytes false = (j : ℕ) × (j < data_symbols s sh) × (Fillable s sh.check_rows lost (column s sh bytes j) → ⊥)
 
 -- the line of the symbols of row r
 pub record IsRow (g : Grid) (r : ℕ) (l : Line) : Type 0 where

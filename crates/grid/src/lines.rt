@@ -33,6 +33,7 @@ impl Line {
     ghost use Rattle.grid.specs.Line.{on, Within, Written, Redone};
 
     // Copies the line to `out`.
+    #[inline(always)]
     pub(crate) fn gather<F: NumberSystem>(&self, bytes: &[u8], out: &mut [u8])
         requires { length out.old ≡ self.now.len }
         ensures { out.new ≡ on F.NumberSystem.system self.now bytes.now }
@@ -43,6 +44,7 @@ impl Line {
     }
 
     // Copies `word` to the line.
+    #[inline(always)]
     pub(crate) fn scatter<F: NumberSystem>(&self, bytes: &mut [u8], word: &[u8])
         requires long { length word.now ≡ self.now.len }
         requires within { Within F.NumberSystem.system self.now (length bytes.old) }
@@ -53,15 +55,19 @@ impl Line {
         }
     }
 
+    // The next four methods work on a copy in `room`, which the caller keeps from line to line: a room of its own would be cleared for
+    // each. As a line may be short, they are inlined into the callers' loops, and so are the two above.
+    //
     // Encoding and filling differ in a step on the copy, and so do the two tests. A function that takes the step as a closure has
     // more lines of contract than it spares here, and its proof does not close.
 
     // Encodes the line.
-    pub(crate) fn encode<F: Field>(&self, bytes: &mut [u8])
-        requires { Within F.NumberSystem.system self.now (length bytes.old) }
+    #[inline(always)]
+    pub(crate) fn encode<F: Field>(&self, bytes: &mut [u8], room: &mut [u8])
+        requires within { Within F.NumberSystem.system self.now (length bytes.old) }
+        requires room { LONGEST ≤ length room.old }
         ensures { Redone F.NumberSystem.system self.now (Encoded F.NumberSystem.system self.now.checks) bytes.old bytes.new }
     {
-        let mut room = [0u8; LONGEST];
         let word = &mut room[..self.len];
         self.gather::<F>(bytes, word);
         let _ = encode::<F>(word, self.checks);
@@ -69,34 +75,42 @@ impl Line {
     }
 
     // Whether the line is a codeword.
-    pub(crate) fn is_codeword<F: NumberSystem>(&self, bytes: &[u8]) -> bool
+    #[inline(always)]
+    pub(crate) fn is_codeword<F: NumberSystem>(&self, bytes: &[u8], room: &mut [u8]) -> bool
+        requires room { LONGEST ≤ length room.old }
         ensures { Tells result (Codeword F.NumberSystem.system self.now.checks (symbols_of F.NumberSystem.system (on F.NumberSystem.system self.now bytes.now))) }
     {
-        let mut room = [0u8; LONGEST];
         let word = &mut room[..self.len];
         self.gather::<F>(bytes, word);
         is_codeword::<F>(word, self.checks)
     }
 
     // Whether the unknown symbols of the line can be filled.
-    pub(crate) fn is_fillable<F: Field>(&self, bytes: &[u8], unknown: &[bool]) -> bool
+    #[inline(always)]
+    pub(crate) fn is_fillable<F: Field>(
+        &self,
+        bytes: &[u8],
+        unknown: &[bool],
+        room: &mut [u8],
+    ) -> bool
+        requires room { LONGEST ≤ length room.old }
         requires few { self.now.len < F.NumberSystem.system.order }
         requires marks { (length unknown.now ≡ self.now.len) × (count unknown.now ≤ self.now.checks) }
         ensures { Tells result (Fillable F.NumberSystem.system self.now.checks unknown.now (on F.NumberSystem.system self.now bytes.now)) }
     {
-        let mut room = [0u8; LONGEST];
         let word = &mut room[..self.len];
         self.gather::<F>(bytes, word);
         fill::<F>(word, unknown, self.checks).is_ok()
     }
 
     // Fills the unknown symbols of the line, where they can be filled.
-    pub(crate) fn fill<F: Field>(&self, bytes: &mut [u8], unknown: &[bool])
+    #[inline(always)]
+    pub(crate) fn fill<F: Field>(&self, bytes: &mut [u8], unknown: &[bool], room: &mut [u8])
+        requires room { LONGEST ≤ length room.old }
         requires within { Within F.NumberSystem.system self.now (length bytes.old) }
         requires marks { (length unknown.now ≡ self.now.len) × (count unknown.now ≤ self.now.checks) }
         ensures { Redone F.NumberSystem.system self.now (FilledIf F.NumberSystem.system self.now.checks unknown.now) bytes.old bytes.new }
     {
-        let mut room = [0u8; LONGEST];
         let word = &mut room[..self.len];
         self.gather::<F>(bytes, word);
         let _ = fill::<F>(word, unknown, self.checks);

@@ -3,6 +3,7 @@ ghost use Rattle.std.specs.Prelude.{◌≡◌, length, MatchResult};
 ghost use Rattle.grid.specs.Grids.{fitting, RowsEncoded, RowsJudged};
 ghost use Rattle.grid.specs.Answers.{flags_reply, RowCorrection};
 
+use super::LONGEST;
 use super::lines::Line;
 use super::shape::Shape;
 use code::correct::Verdict;
@@ -15,8 +16,9 @@ pub fn encode_rows<F: Field>(shape: &Shape, bytes: &mut [u8]) -> Result<(), Code
     ensures after { MatchResult result (λ _. RowsEncoded F.NumberSystem.system shape.now bytes.old bytes.new) (λ _. bytes.new ≡ bytes.old) }
 {
     let grid = shape.measure::<F>(bytes.len())?;
+    let mut room = [0u8; LONGEST];
     for r in 0..grid.rows {
-        grid.row(r).encode::<F>(bytes);
+        grid.row(r).encode::<F>(bytes, &mut room);
     }
     Ok(())
 }
@@ -34,8 +36,9 @@ pub fn codeword_rows<F: NumberSystem>(
     if flags.len() != grid.rows {
         return Err(CodeError::UnequalLengths);
     }
+    let mut room = [0u8; LONGEST];
     for (r, flag) in flags.iter_mut().enumerate() {
-        *flag = grid.row(r).is_codeword::<F>(bytes);
+        *flag = grid.row(r).is_codeword::<F>(bytes, &mut room);
     }
     Ok(())
 }

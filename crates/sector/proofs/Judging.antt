@@ -1,5 +1,5 @@
 -- What the correction of a body says of it.
-use Rattle.std.proofs.Common.{◌≡◌, ℕ, ◌-◌, ◌*◌, ◌<◌, ◌≤◌, true, false, ltb, List, length, get_or, set, Some, Ok, Err, MatchBool, Result, sym, ap, ◌∙◌, subst, mul-le-mul, arith, MatchResult}
+use Rattle.std.proofs.Common.{◌≡◌, ℕ, ◌-◌, ◌*◌, ◌<◌, ◌≤◌, true, false, ltb, List, length, get_or, set, Some, Ok, Err, MatchBool, Result, sym, ap, ◌∙◌, subst, mul-le-mul, arith}
 use lib.ListN.{length-map}
 use Rattle.std.proofs.lemmas.List.{map-set, get_or-map}
 use Rattle.std.proofs.lemmas.Bool.{le-ltb}
@@ -16,11 +16,10 @@ use Rattle.grid.specs.Answers.{RowCorrection, BytesCorrected}
 use Rattle.grid.specs.Grids.{row_symbols, check_symbols}
 use Rattle.grid.proofs.Parts.{length_unpacked}
 use Rattle.block.specs.Layouts.{shape_of, body_bytes}
-use Rattle.block.specs.Conditions.{condition_of, symbols_in, judgement}
+use Rattle.block.specs.Conditions.{symbols_in, judgement}
 use Rattle.block.specs.declared.layout.Layout.{Layout}
 use Rattle.block.specs.declared.layout.Layout.TheVariants.{Audio, Video, Subcode}
 use Rattle.block.specs.declared.condition.Condition.{Condition}
-use Rattle.block.specs.declared.condition.Condition.TheVariants.{OutOfReach}
 use Rattle.block.proofs.Judging.{judged_clean, judged_corrected, judged_out}
 use Rattle.sector.specs.Judgements.{corrected, BodyJudged}
 
@@ -93,8 +92,3 @@ module _ (s : System) (l : Layout) where
         let here : RowCorrection s (shape_of l).check_bytes old new r = subst (λ k. RowCorrection s k old new r) e h in
         let fixed : BytesCorrected s C old new r = subst (λ b. MatchBool b ((r ≡ Err TooManyChecks) × (new ≡ old)) (BytesCorrected s C old new r)) taken here in
         subst (BodyJudged s l old new) (sym is) (by_verdict r fixed.symbols)
-
--- the condition that is made from a correction
-pub corrected_is : (r : Result Verdict CodeError) (c : Condition) → MatchResult r (λ v. c ≡ condition_of v) (λ _. c ≡ OutOfReach) → c ≡ corrected r
-corrected_is (Ok v) c h = h
-corrected_is (Err e) c h = h

@@ -2,13 +2,22 @@
 ghost use Rattle.std.specs.Prelude.{◌≡◌, ◌<◌, length, Some};
 ghost use Rattle.grid.specs.Grids.{row_symbols};
 ghost use Rattle.block.specs.Layouts.{shape_of, body_bytes, block_width};
-ghost use Rattle.sector.specs.Judgements.{BodyJudged, RowJudged};
+ghost use Rattle.sector.specs.Judgements.{corrected, BodyJudged, RowJudged};
 
 use super::terms::Terms;
 use block::condition::Condition;
 use block::identification::is_right;
+use code::correct::Verdict;
+use code::error::CodeError;
 use field::{Field, NumberSystem};
 use grid::rows::correct_row;
+
+// The condition that follows from what correction says.
+fn condition_of(verdict: Result<Verdict, CodeError>) -> Condition
+    ensures { result ≡ corrected verdict }
+{
+    verdict.map_or(Condition::OutOfReach, Condition::from)
+}
 
 // What a body is found to be; it is corrected if one symbol has to change.
 fn judge_body<F: Field>(terms: &Terms, body: &mut [u8]) -> Condition
@@ -16,7 +25,7 @@ fn judge_body<F: Field>(terms: &Terms, body: &mut [u8]) -> Condition
     ensures { BodyJudged F.NumberSystem.system terms.now.layout body.old body.new result }
 {
     let checks = terms.layout.shape().check_bytes;
-    correct_row::<F>(body, checks).map_or(Condition::OutOfReach, Condition::from)
+    condition_of(correct_row::<F>(body, checks))
 }
 
 // What the block at a row's place is found to be; its body is copied, and corrected if one symbol has to change.

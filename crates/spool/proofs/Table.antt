@@ -1,6 +1,6 @@
 -- What a table has for each place, after an entry is replaced or pushed.
-use Rattle.std.proofs.Common.{◌≡◌, ◌≢◌, ℕ, ◌<◌, ◌≤◌, true, false, cond, ◌&&◌, eqb, ltb, leb, List, [], ◌∷◌, ◌++◌, length, get_or, take, drop, set, replicate, Some, None, Option, sym, refl, ap, ◌∙◌, subst, ⊎_elim, arith, Vec, Global, vec_capacity}
-use Rattle.std.specs.List.{position, position_or_len, find, slice_get, list_any, All, IsDistinct}
+use Rattle.std.proofs.Common.{◌≡◌, ◌≢◌, ℕ, suc, ◌<◌, ◌≤◌, true, false, not, cond, ◌&&◌, ◌||◌, ◌==◌, eqb, ltb, leb, List, [], ◌∷◌, ◌++◌, length, get_or, take, drop, set, replicate, Some, None, Option, sym, refl, ap, ◌∙◌, subst, ⊎_elim, arith, Vec, Global, vec_capacity}
+use Rattle.std.specs.List.{position, position_or_len, find, slice_get, list_any, All, AllByRecursion, IsDistinct}
 use Rattle.std.specs.Vec.{with_item}
 use Rattle.std.specs.Option.{option_map, option_and_then, option_or}
 use Rattle.std.specs.Cmp.{nat_eq_equiv}
@@ -12,7 +12,7 @@ use Rattle.std.proofs.lemmas.List.Quantifiers.{position-Some}
 use Rattle.std.proofs.lemmas.List.Sums.{fails_before_first}
 use Rattle.std.proofs.lemmas.Map.Keys.{IsDistinct-push}
 use Rattle.std.proofs.lemmas.Map.Steps.{length-le_from_distinct_below}
-use Rattle.std.proofs.lemmas.Bool.{lt-ltb, eq-eqb, ne_eqb, eqb-true, eqb-false, ltb-true, ltb-false, cases_Bool, and_parts, cond-true, cond-false}
+use Rattle.std.proofs.lemmas.Bool.{lt-ltb, eq-eqb, ne_eqb, eqb-true, eqb-false, ltb-true, ltb-false, cases_Bool, and_parts, and_from, or_from, or_right, not_from_false, cond-true, cond-false}
 use Rattle.byte_string.specs.Bytes.{Bytes}
 use Rattle.store.specs.Store.{Sound, with_at, listed, good_width}
 use Rattle.byte_string.proofs.Bytes.{bytes_take, bytes_drop, bytes_zeros, bytes_append}
@@ -21,6 +21,7 @@ use Rattle.store.proofs.Widths.{width_within}
 use Rattle.spool.specs.declared.entry.Entry.{Entry}
 use Rattle.spool.specs.declared.Spool.TheInside.{Inside}
 use Rattle.spool.specs.Kept.{Kept}
+use Rattle.spool.specs.Order.{apart}
 use Rattle.spool.specs.Table.{places_of, is_of, lookup, held, spool_store, spool_places, order_put, blank}
 
 -- where the entry of a place stands
@@ -163,6 +164,13 @@ narrow_new n w h =
     (λ (t : leb n 169 && good_width w ≡ false). let q : 0 < 0 = simp t at h in absurd (omega arith))
     (cases_Bool (leb n 169 && good_width w))
 
+pub narrow_places : (n w : ℕ) → (eqb (spool_places n w) 0 || good_width w) ≡ true
+narrow_places n w =
+    ⊎_elim
+    (λ (t : leb n 169 && good_width w ≡ true). or_right (eqb (spool_places n w) 0) (good_width w) (and_parts (leb n 169) (good_width w) t).1)
+    (λ (t : leb n 169 && good_width w ≡ false). simp t)
+    (cases_Bool (leb n 169 && good_width w))
+
 -- a place that came again leaves the order, and a new one is the last
 pub order_replaced : (n w p i : ℕ) (xs : List Entry) (y : Entry) (b : List ℕ) → p < n → length b ≡ w → Stands xs p i → y.place ≡ p
     → places_of (set xs i y) ≡ order_put (spool_store n w xs) (places_of xs) p b
@@ -189,21 +197,63 @@ pub distinct_none : IsDistinct eqb (places_of [])
 unfolding IsDistinct
 distinct_none = tt
 
+-- the same of a table that is seen to be empty
+pub distinct_new : (xs : List Entry) → xs ≡ [] → IsDistinct eqb (places_of xs)
+distinct_new xs e = rw e distinct_none
+
+pub below_new : (n : ℕ) (xs : List Entry) → xs ≡ [] → All (λ q. q < n) (places_of xs)
+below_new n xs e = rw e (λ k d lt. absurd (omega arith))
+
+pub apart_none : (n : ℕ) (xs : List Entry) → xs ≡ [] → apart n (places_of xs) ≡ true
+apart_none n xs e = ap (λ ys. apart n (places_of ys)) e
+
+no_other : (x : ℕ) (xs : List ℕ) → AllByRecursion (λ y. eqb x y ≡ false) xs → list_any (λ q. eqb x q) xs ≡ false
+no_other x [] h = refl
+no_other x (y ∷ ys) h = or_from (eqb x y) (list_any (λ q. eqb x q) ys) h.0 (no_other x ys h.1)
+
+-- distinct places below n, as the view says it
+apart_from : (n : ℕ) (ps : List ℕ) → IsDistinct eqb ps → All (λ q. q < n) ps → apart n ps ≡ true
+unfolding IsDistinct
+apart_from n [] distinct below = refl
+apart_from n (x ∷ xs) distinct below =
+    and_from (ltb x n && not (list_any (λ q. eqb x q) xs)) (apart n xs)
+    (and_from (ltb x n) (not (list_any (λ q. eqb x q) xs)) (lt-ltb x n (below 0 x (omega arith))) (not_from_false _ (no_other x xs distinct.0)))
+    (apart_from n xs distinct.1 (λ k d lt. below (suc k) d (omega arith)))
+
 -- what is true of the spool stays
-pub kept_replaced : (s : Inside) (p i : ℕ) (y : Entry) → Kept s → Stands s.table.items p i → y.place ≡ p
-    → Kept (record s { table = with_item s.table i y })
-kept_replaced s p i y k st ey =
+pub apart_replaced : (s : Inside) (p i : ℕ) (y : Entry) → Stands s.table.items p i → y.place ≡ p
+    → apart s.places (places_of (set s.table.items i y)) ≡ true
+apart_replaced s p i y st ey = ap (apart s.places) (places_replaced s.table.items p i y st ey) ∙ s.distinct
+
+pub kept_replaced : (s : Inside) (p i : ℕ) (y : Entry) (h : apart s.places (places_of (set s.table.items i y)) ≡ true)
+    (g : (s.places == 0 || good_width s.width) ≡ true) → Kept s → Stands s.table.items p i → y.place ≡ p
+    → Kept (record s { table = with_item s.table i y; distinct = h; narrow = g })
+kept_replaced s p i y h g k st ey =
     let e = places_replaced s.table.items p i y st ey in
     record { distinct = rw e k.distinct; below = rw e k.below; room = k.room; narrow = k.narrow }
 
-pub kept_pushed : (s : Inside) (table : Vec Entry Global) (p : ℕ) (y : Entry) → p < s.places → Kept s → Absent s.table.items p → y.place ≡ p
-    → table.items ≡ s.table.items ++ y ∷ [] → vec_capacity table ≡ vec_capacity s.table → Kept (record s { table = table })
-kept_pushed s table p y lt k a ey ep cap =
+pushed_distinct : (s : Inside) (p : ℕ) → Kept s → Absent s.table.items p → IsDistinct eqb (places_of s.table.items ++ p ∷ [])
+pushed_distinct s p k a = IsDistinct-push nat_eq_equiv (places_of s.table.items) p k.distinct a.none
+
+pushed_below : (s : Inside) (p : ℕ) → p < s.places → Kept s → All (λ q. q < s.places) (places_of s.table.items ++ p ∷ [])
+pushed_below s p lt k = All-push (λ q. q < s.places) (places_of s.table.items) p k.below lt
+
+pub apart_pushed : (s : Inside) (ys : List Entry) (p : ℕ) (y : Entry) → p < s.places → Kept s → Absent s.table.items p → y.place ≡ p
+    → ys ≡ s.table.items ++ y ∷ [] → apart s.places (places_of ys) ≡ true
+apart_pushed s ys p y lt k a ey ep =
+    ap (apart s.places) (places_pushed p s.table.items ys y ey ep)
+    ∙ apart_from s.places (places_of s.table.items ++ p ∷ []) (pushed_distinct s p k a) (pushed_below s p lt k)
+
+pub kept_pushed : (s : Inside) (table : Vec Entry Global) (p : ℕ) (y : Entry) (h : apart s.places (places_of table.items) ≡ true)
+    (g : (s.places == 0 || good_width s.width) ≡ true) → p < s.places → Kept s → Absent s.table.items p → y.place ≡ p
+    → table.items ≡ s.table.items ++ y ∷ [] → vec_capacity table ≡ vec_capacity s.table
+    → Kept (record s { table = table; distinct = h; narrow = g })
+kept_pushed s table p y h g lt k a ey ep cap =
     let e = places_pushed p s.table.items table.items y ey ep in
     let room = k.room in
     record {
-      distinct = rw e (IsDistinct-push nat_eq_equiv (places_of s.table.items) p k.distinct a.none);
-      below = rw e (All-push (λ q. q < s.places) (places_of s.table.items) p k.below lt);
+      distinct = rw e (pushed_distinct s p k a);
+      below = rw e (pushed_below s p lt k);
       room = omega arith;
       narrow = k.narrow;
     }

@@ -1,3 +1,4 @@
 pub mod Kept
+pub mod Order
 pub mod SpoolView
 pub mod Table

@@ -5,11 +5,12 @@
 
 mod entry;
 
-ghost use Rattle.std.specs.Prelude.{◌≡◌, ℕ, ◌<◌, ◌≤◌, [], length, take, position, IfOk, All, nat_eq};
+ghost use Rattle.std.specs.Prelude.{◌≡◌, ℕ, ◌<◌, ◌≤◌, true, ◌||◌, [], length, take, position, IfOk, All, nat_eq, ◌==◌};
 ghost use Rattle.std.specs.List.{IsDistinct};
 ghost use Rattle.byte_string.specs.Bytes.{Bytes};
-ghost use Rattle.store.specs.Store.{Sound, put_reply, put_after, clear_reply, clear_after};
-ghost use Rattle.spool.specs.Table.{is_of, spool_places, order_put, blank};
+ghost use Rattle.store.specs.Store.{Sound, good_width, put_reply, put_after, clear_reply, clear_after};
+ghost use Rattle.spool.specs.Order.{apart};
+ghost use Rattle.spool.specs.Table.{is_of, places_of, spool_places, order_put, blank};
 
 use entry::Entry;
 use std::alloc::{AllocError, Global};
@@ -23,6 +24,8 @@ pub struct Spool {
     width: usize,
     // a list and no map: the order of arrival is promised, and the memory is taken once
     table: Vec<Entry>,
+    ghost distinct: { apart places (places_of table.items) ≡ true },
+    ghost narrow: { (places == 0 || good_width width) ≡ true },
 }
 
 // Callers see the store, and the places in their order.
@@ -34,7 +37,7 @@ impl Model for Spool {
     ghost use Rattle.spool.specs.Table.{spool_store, places_of};
     ghost use Rattle.spool.specs.Kept.{Kept};
 
-    ghost view = { λ s. record { store = spool_store s.places s.width s.table.items; order = places_of s.table.items } };
+    ghost view = { λ s. record { store = spool_store s.places s.width s.table.items; order = places_of s.table.items; distinct = s.distinct; narrow = s.narrow } };
 
     ghost invariant = { Kept };
 }
@@ -71,6 +74,7 @@ fn position_of(table: &[Entry], place: usize) -> Option<usize>
 impl Spool {
     /// A blank spool, with its memory; one of more than 169 places, or of a width that is not 1 to 88,
     /// has no places.
+    #[tactic(auto, using(crate::proofs::Table::apart_none, crate::proofs::Table::narrow_places, crate::proofs::Table::narrow_new, crate::proofs::Table::distinct_new, crate::proofs::Table::below_new))]
     pub fn new(heap: Global, places: usize, width: usize) -> Result<Spool, AllocError>
         ensures store { IfOk result (λ s. s.store ≡ blank (spool_places places width) width) }
         ensures order { IfOk result (λ s. s.order ≡ []) }

@@ -25,9 +25,9 @@ pub fn is_width(width: usize) -> bool
 #[derive(Clone, Copy, PartialEq, Eq, Debug)]
 pub enum StoreRefusal {
     /// The place is not below the store's places.
-    Place = 1,
+    Place,
     /// The length differs from the store's width.
-    Length = 2,
+    Length,
 }
 
 impl StoreRefusal {
@@ -35,7 +35,7 @@ impl StoreRefusal {
     pub fn number(self) -> u8
         ensures { result ≡ number_of self }
     {
-        self as u8
+        self as u8 + 1
     }
 }
 

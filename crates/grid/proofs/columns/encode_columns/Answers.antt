@@ -2,8 +2,8 @@ use Rattle.code.specs.Filling.{Encoded}
 use Rattle.grid.proofs.SizedWork.{column_within, column_step}
 use Rattle.grid.proofs.columns.encode_columns.Goals as goal
 
-pub encode-requires : goal.encode-requires
-encode-requires g c =
+pub encode-requires-clause-within : goal.encode-requires-clause-within
+encode-requires-clause-within g c =
     column_within c.in_ok-grid.ensures c.column.ensures c.loop-j-test.true c.loop-j.auto.bytes
 
 pub loop-j-preserved : goal.loop-j-preserved

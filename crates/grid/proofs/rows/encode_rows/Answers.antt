@@ -1,8 +1,8 @@
 use Rattle.grid.proofs.SizedWork.{row_within, row_step}
 use Rattle.grid.proofs.rows.encode_rows.Goals as goal
 
-pub encode-requires : goal.encode-requires
-encode-requires g c =
+pub encode-requires-clause-within : goal.encode-requires-clause-within
+encode-requires-clause-within g c =
     row_within c.in_ok-grid.ensures c.row.ensures c.loop-r-test.true c.loop-r.auto.bytes
 
 pub loop-r-preserved : goal.loop-r-preserved

@@ -2,14 +2,20 @@ use Rattle.std.proofs.Common.{None, refl, eqb, ◌<◌}
 use Rattle.std.specs.List.{All, IsDistinct}
 use Rattle.store.proofs.Replies.{clear_done}
 use Rattle.spool.specs.Table.{spool_store}
-use Rattle.spool.proofs.Table.{stands, absent, kept_replaced, store_replaced, store_blank, places_replaced, still}
+use Rattle.spool.proofs.Table.{stands, absent, kept_replaced, apart_replaced, store_replaced, store_blank, places_replaced, still}
 use Rattle.spool.proofs.SpoolBlockStore.clear.Goals as goal
 
 pub invariant_of-self : goal.invariant_of-self
 invariant_of-self c =
     let s = c.self.inside in
     let st = stands s.table.items c.args.place c.in-Some.i (rw c.deref.ensures.value at c.in-Some.ensures) in
-    kept_replaced s c.args.place c.in-Some.i _ c.self.invariant st refl
+    kept_replaced s c.args.place c.in-Some.i _ _ _ c.self.invariant st refl
+
+pub invariant_of-self-inside : goal.invariant_of-self-inside
+invariant_of-self-inside c =
+    let s = c.self.inside in
+    let st = stands s.table.items c.args.place c.in-Some.i (rw c.deref.ensures.value at c.in-Some.ensures) in
+    (apart_replaced s c.args.place c.in-Some.i _ st refl, (s.narrow, tt))
 
 pub returns-in-Some-clause-after : goal.returns-in-Some-clause-after
 returns-in-Some-clause-after c =

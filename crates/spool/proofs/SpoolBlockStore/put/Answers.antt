@@ -2,14 +2,20 @@ use Rattle.std.proofs.Common.{◌≡◌, length, take, Some, sym, refl, ap, ◌�
 use Rattle.std.specs.List.{All, IsDistinct}
 use Rattle.store.proofs.Replies.{put_done}
 use Rattle.spool.specs.Table.{spool_store}
-use Rattle.spool.proofs.Table.{stands, absent, room, kept_replaced, kept_pushed, store_replaced, store_pushed, order_replaced, order_pushed, still}
+use Rattle.spool.proofs.Table.{stands, absent, room, kept_replaced, kept_pushed, apart_replaced, apart_pushed, store_replaced, store_pushed, order_replaced, order_pushed, still}
 use Rattle.spool.proofs.SpoolBlockStore.put.Goals as goal
 
 pub invariant_of-self : goal.invariant_of-self
 invariant_of-self c =
     let s = c.self.inside in
     let st = stands s.table.items c.args.place c.in-Some.i (rw c.deref.ensures.value at c.in-Some.ensures) in
-    kept_replaced s c.args.place c.in-Some.i _ c.self.invariant st refl
+    kept_replaced s c.args.place c.in-Some.i _ _ _ c.self.invariant st refl
+
+pub invariant_of-self-inside : goal.invariant_of-self-inside
+invariant_of-self-inside c =
+    let s = c.self.inside in
+    let st = stands s.table.items c.args.place c.in-Some.i (rw c.deref.ensures.value at c.in-Some.ensures) in
+    (apart_replaced s c.args.place c.in-Some.i _ st refl, (s.narrow, tt))
 
 pub push_reserved-requires : goal.push_reserved-requires
 push_reserved-requires c =
@@ -24,7 +30,13 @@ pub invariant_of-self-in-None : goal.invariant_of-self-in-None
 invariant_of-self-in-None c =
     let s = c.self.inside in
     let none = absent s.table.items c.args.place (rw c.deref.ensures.value at c.in-None.ensures) in
-    kept_pushed s c.push_reserved.new.self c.args.place _ c.if-place-self.false c.self.invariant none refl c.push_reserved.ensures.items c.push_reserved.ensures.capacity
+    kept_pushed s c.push_reserved.new.self c.args.place _ _ _ c.if-place-self.false c.self.invariant none refl c.push_reserved.ensures.items c.push_reserved.ensures.capacity
+
+pub invariant_of-self-inside-in-None : goal.invariant_of-self-inside-in-None
+invariant_of-self-inside-in-None c =
+    let s = c.self.inside in
+    let none = absent s.table.items c.args.place (rw c.deref.ensures.value at c.in-None.ensures) in
+    (apart_pushed s _ c.args.place _ c.if-place-self.false c.self.invariant none refl c.push_reserved.ensures.items, (s.narrow, tt))
 
 pub returns-in-Some-clause-after : goal.returns-in-Some-clause-after
 returns-in-Some-clause-after c =
@@ -74,4 +86,4 @@ pub returns-in-None-clause-distinct : goal.returns-in-None-clause-distinct
 returns-in-None-clause-distinct c =
     let s = c.self.inside in
     let none = absent s.table.items c.args.place (rw c.deref.ensures.value at c.in-None.ensures) in
-    (kept_pushed s c.push_reserved.new.self c.args.place _ c.if-place-self.false c.self.invariant none refl c.push_reserved.ensures.items c.push_reserved.ensures.capacity).distinct
+    (kept_pushed s c.push_reserved.new.self c.args.place _ (apart_pushed s _ c.args.place _ c.if-place-self.false c.self.invariant none refl c.push_reserved.ensures.items) s.narrow c.if-place-self.false c.self.invariant none refl c.push_reserved.ensures.items c.push_reserved.ensures.capacity).distinct
